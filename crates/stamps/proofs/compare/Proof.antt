@@ -1,0 +1,30 @@
+-- `stamps::compare` meets its contract: the sign by count, and otherwise the sign by desk. Assumes nothing.
+use mathlib.Core.Path.{_≡_}
+use mir.Syntax.{w8}
+use mir.Val.{toZ, ofZ}
+use borrow.Author.Needs.{needs}
+use Rattle.stamps.specs.Stamp.{comparedOf}
+use Rattle.stamps.proofs.compare.Statement.{statement}
+use Rattle.stamps.proofs.compare.Tie as tie
+
+cast-sign : tie.Need-cast-sign
+cast-sign c = search needs
+
+cast-sign-2 : tie.Need-cast-sign-2
+cast-sign-2 c = search needs
+
+sign-requires : tie.Need-sign-requires
+sign-requires c κs = search needs
+
+sign-requires-2 : tie.Need-sign-requires-2
+sign-requires-2 c κs = search needs
+
+returns : tie.Need-returns
+unfolding comparedOf
+returns c =
+    let by-desk : toZ w8 (ofZ w8 (c .before .sign .result)) ≡ c .before .sign .result = search needs in
+    let by-count : toZ w8 (ofZ w8 (c .sign2 .result)) ≡ c .sign2 .result = search needs in
+    rw (by-count, c .sign2 .ensures, by-desk, c .before .sign .ensures)
+
+pub compare-spec : {M : Type 1} → statement M
+compare-spec = tie.close (tie.spec cast-sign cast-sign-2 sign-requires sign-requires-2 returns)

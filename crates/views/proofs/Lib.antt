@@ -1,0 +1,11 @@
+pub mod Truth
+pub mod Digits
+pub mod Sets
+pub mod Quorums
+pub mod Among
+pub mod Nested
+pub mod Merge
+pub mod Rows
+pub mod Fits
+pub mod Scans
+pub mod Gathers

@@ -1,0 +1,268 @@
+-- The laws of finite sets kept as numbers (Digits): inclusion, union, intersection, size, and the members of a view. For all proofs of the project.
+-- The laws speak of facts (`Within`, `Inside`); the last parts tie them to the tests (`withinOf`, `insideOf`, `clashOf`, `memberOf`). Assumes nothing.
+use mathlib.Core.Path.{_≡_, refl, sym, ap, ap₂, _∙_}
+use mathlib.Core.Logic.{_≢_, _⊎_, inl, inr, ⊎-elim}
+use mathlib.Core.Bool.{Bool, true, false, not, _&&_, and-eq-true-iff}
+use Prim.Native.Nat.{ℕ, zero, suc, _+_, _-_, _/_, _%_, _^_, _≤_, _<_}
+use native.Mathlib.Omega.{arith}
+use native.Mathlib.Decide.{ℕ-discrete}
+use native.Mathlib.Nat.{pow-suc, eq-or-lt-of-le}
+use lib.Arith.{bin-ind}
+use lib.Dec.{eqb}
+use lib.Bits.{bitAnd, bitOr, and-step, and-comm, and-self, and-le-l, and-le-r, and-zero-l}
+use lib.Count.{ones, ones-step}
+use borrow.Author.Tests.{eqb-true, eqb-false, eq-eqb, ne-eqb, not-true}
+use Rattle.views.specs.View.{bitOf, membersOf, memberOf, withinOf, insideOf, clashOf}
+use Rattle.views.proofs.Truth.{decided, never-true, contrary}
+use Rattle.views.proofs.Digits.{digit, digit-lt, digit-and, digit-or, digit-other, and-half, and-low, or-half, or-low, none, ext, bit-fact, bit-test, clear-fact, bit-and, bit-low, bit-shr, bit-not, bit-below, bit-none, bit-one}
+
+-- ---- inclusion, as a program tests it: `a & b == a`. A record, so that nothing unfolds it and its two sets are implicit in a lemma
+
+pub record Within (a b : ℕ) : Type 0 where
+  pub meets : bitAnd a b ≡ a
+
+pub within-digit : {a b : ℕ} → Within a b → (i : ℕ) → digit i a ≤ digit i b
+within-digit {a} {b} h i = omega (arith, digit-and i a b, ap (digit i) (h .meets))
+
+pub digit-within : {a b : ℕ} → ((i : ℕ) → digit i a ≤ digit i b) → Within a b
+digit-within {a} {b} h = record { meets = ext (bitAnd a b) a (λ i. omega (arith, digit-and i a b, h i)) }
+
+pub within-refl : (a : ℕ) → Within a a
+within-refl a = record { meets = and-self a }
+
+pub within-trans : {a b c : ℕ} → Within a b → Within b c → Within a c
+within-trans h k = digit-within (λ i. omega (arith, within-digit h i, within-digit k i))
+
+pub within-antisym : {a b : ℕ} → Within a b → Within b a → a ≡ b
+within-antisym {a} {b} h k = sym (h .meets) ∙ and-comm a b ∙ k .meets
+
+pub within-le : {a b : ℕ} → Within a b → a ≤ b
+within-le {a} {b} h = omega (arith, and-le-r a b, h .meets)
+
+pub within-empty : (a : ℕ) → Within 0 a
+within-empty a = record { meets = and-zero-l a }
+
+-- the union is the least set that holds both, and the intersection the greatest that both hold
+pub within-or-left : (a b : ℕ) → Within a (bitOr a b)
+within-or-left a b = digit-within (λ i. omega (arith, digit-or i a b))
+
+pub within-or-right : (a b : ℕ) → Within b (bitOr a b)
+within-or-right a b = digit-within (λ i. omega (arith, digit-or i a b))
+
+pub or-within : {a b c : ℕ} → Within a c → Within b c → Within (bitOr a b) c
+or-within {a} {b} h k = digit-within (λ i. omega (arith, digit-or i a b, within-digit h i, within-digit k i))
+
+pub or-within-is : {a b : ℕ} → Within a b → bitOr a b ≡ b
+or-within-is {a} {b} h = within-antisym (or-within h (within-refl b)) (within-or-right a b)
+
+pub or-mono : {a b c d : ℕ} → Within a c → Within b d → Within (bitOr a b) (bitOr c d)
+or-mono {a} {b} {c} {d} h k = or-within (within-trans h (within-or-left c d)) (within-trans k (within-or-right c d))
+
+pub or-assoc : (a b c : ℕ) → bitOr (bitOr a b) c ≡ bitOr a (bitOr b c)
+or-assoc a b c =
+    ext (bitOr (bitOr a b) c) (bitOr a (bitOr b c))
+    (λ i. omega (arith, digit-or i (bitOr a b) c, digit-or i a b, digit-or i a (bitOr b c), digit-or i b c))
+
+pub and-assoc : (a b c : ℕ) → bitAnd (bitAnd a b) c ≡ bitAnd a (bitAnd b c)
+and-assoc a b c =
+    ext (bitAnd (bitAnd a b) c) (bitAnd a (bitAnd b c))
+    (λ i. omega (arith, digit-and i (bitAnd a b) c, digit-and i a b, digit-and i a (bitAnd b c), digit-and i b c))
+
+pub and-within-left : (a b : ℕ) → Within (bitAnd a b) a
+and-within-left a b = digit-within (λ i. omega (arith, digit-and i a b))
+
+pub and-within-right : (a b : ℕ) → Within (bitAnd a b) b
+and-within-right a b = digit-within (λ i. omega (arith, digit-and i a b))
+
+pub within-and : {a b c : ℕ} → Within c a → Within c b → Within c (bitAnd a b)
+within-and {a} {b} h k = digit-within (λ i. omega (arith, digit-and i a b, within-digit h i, within-digit k i))
+
+-- ---- sizes
+
+pub ones-or-and : (a b : ℕ) → ones (bitOr a b) + ones (bitAnd a b) ≡ ones a + ones b
+unfolding ones
+ones-or-and =
+    bin-ind (λ (n : ℕ). (b : ℕ) → ones (bitOr n b) + ones (bitAnd n b) ≡ ones n + ones b) (λ b. omega arith)
+    (λ n ih b. omega (
+      arith,
+      ih (b / 2),
+      ones-step n,
+      ones-step b,
+      simp (or-half, or-low) at (ones-step (bitOr n b)),
+      simp (and-half, and-low) at (ones-step (bitAnd n b)),
+    ))
+
+pub ones-none : (a : ℕ) → ones a ≡ 0 → a ≡ 0
+ones-none = bin-ind (λ (n : ℕ). ones n ≡ 0 → n ≡ 0) (λ e. refl) (λ n ih e. omega (arith, ih (omega (arith, ones-step n)), ones-step n))
+
+pub ones-single : (j : ℕ) → ones (2 ^ j) ≡ 1
+unfolding ones
+ones-single zero = refl
+ones-single (suc j) =
+    let e : 2 ^ suc j / 2 ≡ 2 ^ j = omega (arith, pow-suc 2 j) in
+    omega (arith, ones-step (2 ^ suc j), pow-suc 2 j, ap ones e, ones-single j)
+
+-- one member more
+pub ones-insert : (a j : ℕ) → digit j a ≡ 0 → ones (bitOr a (2 ^ j)) ≡ ones a + 1
+unfolding ones
+ones-insert a j e =
+    let d : bitAnd a (2 ^ j) ≡ 0 = none (bitAnd a (2 ^ j)) (λ i. apart i (ℕ-discrete i j)) in
+    omega (arith, ones-or-and a (2 ^ j), ones-single j, ap ones d)
+  where
+    apart : (i : ℕ) → Dec (i ≡ j) → digit i (bitAnd a (2 ^ j)) ≡ 0
+    apart i (yes f) = omega (arith, digit-and i a (2 ^ j), ap (λ (x : ℕ). digit x a) f)
+    apart i (no f) = omega (arith, digit-and i a (2 ^ j), digit-other i j f)
+
+-- a set inside another is that set, or has fewer members
+smaller : (a b : ℕ) → bitAnd a b ≡ a → (a ≡ b) ⊎ (ones a < ones b)
+unfolding ones
+smaller =
+    bin-ind (λ (n : ℕ). (b : ℕ) → bitAnd n b ≡ n → (n ≡ b) ⊎ (ones n < ones b)) (λ b h. empty b (ones b) refl)
+    (λ n ih b h. step n b h (ih (b / 2) (omega (arith, and-step n b))) (eq-or-lt-of-le {n = n % 2} {m = b % 2} (omega (arith, and-step n b))))
+  where
+    empty : (b k : ℕ) → ones b ≡ k → (0 ≡ b) ⊎ (ones 0 < ones b)
+    empty b zero e = inl (sym (ones-none b e))
+    empty b (suc k) e = inr (omega arith)
+
+    step : (n b : ℕ) → bitAnd n b ≡ n → (n / 2 ≡ b / 2) ⊎ (ones (n / 2) < ones (b / 2)) → (n % 2 ≡ b % 2) ⊎ (n % 2 < b % 2)
+        → (n ≡ b) ⊎ (ones n < ones b)
+    step n b h (inl e) (inl d) = inl (omega arith)
+    step n b h (inl e) (inr d) = inr (omega (arith, ones-step n, ones-step b, ap ones e))
+    step n b h (inr l) (inl d) = inr (omega (arith, ones-step n, ones-step b))
+    step n b h (inr l) (inr d) = inr (omega (arith, ones-step n, ones-step b))
+
+pub ones-within : {a b : ℕ} → Within a b → ones a ≤ ones b
+ones-within {a} {b} h = ⊎-elim (λ e. omega (arith, ap ones e)) (λ l. omega arith) (smaller a b (h .meets))
+
+-- ---- strictly inside: a strict order, and the size grows along it
+
+pub record Inside (a b : ℕ) : Type 0 where
+  pub within : Within a b
+  pub other : a ≢ b
+
+pub inside-grows : {a b : ℕ} → Inside a b → ones a < ones b
+inside-grows {a} {b} h = ⊎-elim (λ e. absurd (h .other e)) (λ l. l) (smaller a b (h .within .meets))
+
+pub inside-lt : {a b : ℕ} → Inside a b → a < b
+inside-lt h = omega (arith, within-le (h .within), h .other)
+
+pub inside-irrefl : {a : ℕ} → Inside a a → ⊥
+inside-irrefl h = h .other refl
+
+pub inside-not-within : {a b : ℕ} → Inside a b → Within b a → ⊥
+inside-not-within h k = h .other (within-antisym (h .within) k)
+
+pub inside-asym : {a b : ℕ} → Inside a b → Inside b a → ⊥
+inside-asym h k = inside-not-within h (k .within)
+
+pub inside-within : {a b c : ℕ} → Inside a b → Within b c → Inside a c
+inside-within h k = record { within = within-trans (h .within) k; other = λ e. omega (arith, inside-lt h, within-le k) }
+
+pub within-inside : {a b c : ℕ} → Within a b → Inside b c → Inside a c
+within-inside h k = record { within = within-trans h (k .within); other = λ e. omega (arith, inside-lt k, within-le h) }
+
+pub inside-trans : {a b c : ℕ} → Inside a b → Inside b c → Inside a c
+inside-trans h k = inside-within h (k .within)
+
+pub within-cases : {a b : ℕ} → Within a b → (a ≡ b) ⊎ Inside a b
+within-cases {a} {b} h = go (ℕ-discrete a b)
+  where
+    go : Dec (a ≡ b) → (a ≡ b) ⊎ Inside a b
+    go (yes e) = inl e
+    go (no e) = inr (record { within = h; other = e })
+
+pub inside-empty : {a : ℕ} → a ≢ 0 → Inside 0 a
+inside-empty {a} h = record { within = within-empty a; other = λ e. h (sym e) }
+
+-- a set and the union with what it does not include
+pub inside-or : (a b : ℕ) → (Within b a → ⊥) → Inside a (bitOr a b)
+inside-or a b h = record { within = within-or-left a b; other = λ e. h (rw (← e) at (within-or-right a b)) }
+
+-- ---- the tests of inclusion
+
+pub within-bit : {a b : ℕ} → Within a b → (s : ℕ) → bitOf a s ≡ true → bitOf b s ≡ true
+within-bit {a} {b} h s e = bit-test b s (omega (arith, within-digit h s, bit-fact a s e, digit-lt s b))
+
+pub bit-within : (a b : ℕ) → ((s : ℕ) → bitOf a s ≡ true → bitOf b s ≡ true) → Within a b
+bit-within a b h =
+    digit-within (λ i. ⊎-elim (λ e. omega (arith, bit-fact a i e, bit-fact b i (h i e))) (λ e. omega (arith, clear-fact a i e)) (decided (bitOf a i)))
+
+pub one-within : (m s : ℕ) → bitOf m s ≡ true → Within (2 ^ s) m
+one-within m s e = bit-within (2 ^ s) m (λ i h. rw (eqb-true i s (sym (bit-one i s) ∙ h)) e)
+
+-- a member more is a strict growth
+pub inside-one : (m s : ℕ) → bitOf m s ≡ false → Inside m (bitOr m (2 ^ s))
+inside-one m s e = inside-or m (2 ^ s) (λ w. contrary (within-bit w s (bit-one s s ∙ eq-eqb s s refl)) e)
+
+pub within-fact : (a b : ℕ) → withinOf a b ≡ true → Within a b
+within-fact a b e = record { meets = eqb-true _ a e }
+
+pub within-test : {a b : ℕ} → Within a b → withinOf a b ≡ true
+within-test {a} {b} h = eq-eqb _ a (h .meets)
+
+pub inside-fact : (a b : ℕ) → insideOf a b ≡ true → Inside a b
+unfolding insideOf
+inside-fact a b e =
+    let h = and-eq-true-iff (withinOf a b) (not (eqb a b)) .0 e in
+    record { within = within-fact a b (h .0); other = eqb-false a b (not-true (eqb a b) (h .1)) }
+
+pub inside-test : {a b : ℕ} → Inside a b → insideOf a b ≡ true
+unfolding insideOf
+inside-test {a} {b} i = rw (within-test (i .within), ne-eqb a b (i .other))
+
+pub inside-self : (a : ℕ) → insideOf a a ≡ false
+inside-self a = never-true (insideOf a a) (λ e. inside-irrefl (inside-fact a a e))
+
+-- two views that do not clash are nested, and two nested ones do not clash
+pub apart-fact : (a b : ℕ) → clashOf a b ≡ false → Within a b ⊎ Within b a
+unfolding clashOf
+apart-fact a b e = go (eqb a b) (insideOf a b) (insideOf b a) refl refl refl e
+  where
+    go : (x y z : Bool) → eqb a b ≡ x → insideOf a b ≡ y → insideOf b a ≡ z → not x && (not y && not z) ≡ false → Within a b ⊎ Within b a
+    go true y z ex ey ez e = inl (rw (eqb-true a b ex) (within-refl b))
+    go false true z ex ey ez e = inl (inside-fact a b ey .within)
+    go false false true ex ey ez e = inr (inside-fact b a ez .within)
+    go false false false ex ey ez e = absurd (contrary refl e)
+
+pub apart-test : {a b : ℕ} → Within a b ⊎ Within b a → clashOf a b ≡ false
+unfolding clashOf
+apart-test {a} {b} h = never-true (clashOf a b) (λ e.
+    let p = and-eq-true-iff (not (eqb a b)) (not (insideOf a b) && not (insideOf b a)) .0 e in
+    let q = and-eq-true-iff (not (insideOf a b)) (not (insideOf b a)) .0 (p .1) in
+    let d = eqb-false a b (not-true _ (p .0)) in
+    ⊎-elim (λ w. none-between w d (not-true _ (q .0))) (λ w. none-between w (λ x. d (sym x)) (not-true _ (q .1))) h)
+  where
+    none-between : {x y : ℕ} → Within x y → x ≢ y → insideOf x y ≡ false → ⊥
+    none-between w d n = contrary (inside-test (record { within = w; other = d })) n
+
+pub apart-sym : (a b : ℕ) → clashOf a b ≡ false → clashOf b a ≡ false
+apart-sym a b e = apart-test (⊎-elim inr inl (apart-fact a b e))
+
+-- the smaller number is then inside the greater
+pub apart-inside : (a b : ℕ) → clashOf a b ≡ false → a < b → Inside a b
+apart-inside a b e l =
+    ⊎-elim (λ w. record { within = w; other = λ x. omega arith }) (λ w. absurd (omega (arith, within-le w))) (apart-fact a b e)
+
+-- ---- the members of a view
+
+pub members-lt : (v : ℕ) → membersOf v < 256
+members-lt v = omega (arith, and-le-l (v % 256) (255 - v / 256))
+
+pub member-bit : (v s : ℕ) → memberOf v s ≡ bitOf (membersOf v) s
+unfolding memberOf
+member-bit v s = refl
+
+pub member-lt : (v s : ℕ) → memberOf v s ≡ true → s < 8
+unfolding memberOf
+member-lt v s e = bit-below 8 (membersOf v) s (members-lt v) e
+
+-- relay s is a member of v where it joined and has not left
+pub members-bit : (v s : ℕ) → v < 65536 → s < 8 → memberOf v s ≡ (bitOf v s && not (bitOf v (8 + s)))
+unfolding memberOf
+members-bit v s h l =
+    bit-and s (v % 256) (255 - v / 256)
+    ∙ ap₂ _&&_ (bit-low 8 s v l) (bit-not 8 s (v / 256) l (omega arith) ∙ ap not (bit-shr 8 s v))
+
+pub member-not-empty : (v s : ℕ) → memberOf v s ≡ true → v ≢ 0
+unfolding memberOf
+member-not-empty v s e z = contrary (rw z at e) (bit-none s)
