@@ -1,0 +1,82 @@
+-- Laws of a table: n rows of one width w, encoded by any enc.
+-- Assumes nothing.
+use mathlib.Core.Path.{_≡_, refl, sym, ap, _∙_}
+use mathlib.Core.List.{List, [], _∷_, append-nil}
+use Prim.Native.Nat.{ℕ, _+_, _*_, _≤_, _<_}
+use native.Mathlib.Nat.{add-zero}
+use native.Mathlib.Omega.{arith}
+use lib.ListN.{length, getD, set, drop-of-length-le}
+use lib.Seq.{ext-getD, getD-set-same, getD-set-other}
+use Rattle.rows.specs.Bytes.{splice, table, tab, zeros}
+use Rattle.rows.proofs.Laws.{run-inside, run-write, length-run, Holds, holds-self, holds-same, holds-run, tab-ext, tab-getD, getD-tab}
+use Rattle.rows.proofs.Held.{run-held}
+
+pub splice-whole : (b v : List ℕ) → length v ≡ length b → splice b 0 v ≡ v
+unfolding splice
+splice-whole b v e =
+    let h : length b ≤ 0 + length v = omega arith in
+    rw (drop-of-length-le b h) (append-nil v)
+
+pub length-zeros : (n : ℕ) → length (zeros n) ≡ n
+unfolding zeros
+length-zeros n = let e = length-run 1 n (λ k. 0 ∷ []) (λ k. refl) in omega arith
+
+module _ {A : Type 0} (enc : A → List ℕ) (d : A) (w n : ℕ) (wide : (x : A) → length (enc x) ≡ w) where
+  pub table-length : (xs : List A) → length (table enc d n xs) ≡ n * w
+  table-length xs = length-run w n (λ k. enc (getD xs k d)) (λ k. wide (getD xs k d))
+
+  pub table-holds : (l : List ℕ) (o i : ℕ) (xs : List A) → i < n → Holds l o (table enc d n xs) → Holds l (o + i * w) (enc (getD xs i d))
+  table-holds l o i xs hi h = holds-run w n i o l (λ k. enc (getD xs k d)) (λ k. wide (getD xs k d)) hi h
+
+  -- v written at o inside row i, which makes it y's row
+  pub table-write : (xs : List A) (i o : ℕ) (v : List ℕ) (y : A) → length xs ≡ n → i < n → o + length v ≤ w
+      → splice (enc (getD xs i d)) o v ≡ enc y
+      → splice (table enc d n xs) (i * w + o) v ≡ table enc d n (set xs i y)
+  table-write xs i o v y lx hi ho e =
+      run-write w n i o (λ k. enc (getD xs k d)) (λ k. enc (getD (set xs i y) k d)) v (λ k. wide (getD xs k d)) hi ho
+      (ap enc (getD-set-same xs i y d (omega arith)) ∙ sym e)
+      (λ k p q. ap enc (getD-set-other xs i k y d q))
+
+  -- y's row written over row i
+  pub table-set : (xs : List A) (i : ℕ) (y : A) → length xs ≡ n → i < n → splice (table enc d n xs) (i * w) (enc y) ≡ table enc d n (set xs i y)
+  table-set xs i y lx hi =
+      let ly = wide y in
+      let lo = wide (getD xs i d) in
+      rw (← add-zero (i * w)) (table-write xs i 0 (enc y) y lx hi (omega arith) (splice-whole (enc (getD xs i d)) (enc y) (omega arith)))
+
+  -- ---- a row is read by dec, at any place
+
+  module _ (dec : List ℕ → ℕ → A) (l : List ℕ) (o : ℕ) where
+    -- the rows that l holds are read back
+    pub table-back : (Good : A → Type 0) → ((p : ℕ) (x : A) → Good x → Holds l p (enc x) → dec l p ≡ x)
+        → (xs : List A) → length xs ≡ n → ((k : ℕ) → k < n → Good (getD xs k d)) → Holds l o (table enc d n xs)
+        → tab n (λ k. dec l (o + k * w)) ≡ xs
+    table-back Good back xs lx good h =
+        tab-ext n (λ k. dec l (o + k * w)) (λ k. getD xs k d) (λ k p. back (o + k * w) (getD xs k d) (good k p) (table-holds l o k xs p h))
+        ∙ tab-getD xs n d lx
+
+    -- the rows that are read are held
+    pub table-held : ((p : ℕ) → p + w ≤ length l → Holds l p (enc (dec l p))) → o + n * w ≤ length l
+        → Holds l o (table enc d n (tab n (λ k. dec l (o + k * w))))
+    table-held held room =
+        run-held w n o l (λ k. enc (getD (tab n row) k d)) (λ k. wide (getD (tab n row) k d)) (omega arith)
+        (λ k p. rw (getD-tab n k row d p) (held (o + k * w) (omega (arith, run-inside w k n p))))
+      where
+        row : ℕ → A
+        row k = dec l (o + k * w)
+
+  -- one image, one list of rows
+  pub table-injective : (Good : A → Type 0) → ((x y : A) → Good x → Good y → enc x ≡ enc y → x ≡ y)
+      → (xs ys : List A) → length xs ≡ n → length ys ≡ n → ((k : ℕ) → k < n → Good (getD xs k d)) → ((k : ℕ) → k < n → Good (getD ys k d))
+      → table enc d n xs ≡ table enc d n ys → xs ≡ ys
+  table-injective Good injective xs ys lx ly gx gy e = ext-getD d xs ys (lx ∙ sym ly) (λ k h. one k (omega arith))
+    where
+      one : (k : ℕ) → k < n → getD xs k d ≡ getD ys k d
+      one k h =
+          let x = getD xs k d in
+          let y = getD ys k d in
+          let held : Holds (table enc d n xs) 0 (table enc d n ys) = rw e (holds-self (table enc d n ys)) in
+          injective x y (gx k h) (gy k h)
+          (holds-same (table enc d n xs) (enc x) (enc y) (0 + k * w) (wide x ∙ sym (wide y))
+          (table-holds (table enc d n xs) 0 k xs h (holds-self (table enc d n xs)))
+          (table-holds (table enc d n xs) 0 k ys h held))

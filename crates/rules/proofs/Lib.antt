@@ -1,0 +1,16 @@
+pub mod Refusals
+pub mod Order
+pub mod Starts
+pub mod Counts
+pub mod Hold
+pub mod Sends
+pub mod Generators
+pub mod Relays
+pub mod Transfers
+pub mod Serving
+pub mod Desks
+pub mod Kept
+pub mod Sheets
+pub mod Rooms
+pub mod Mistakes
+pub mod Worked

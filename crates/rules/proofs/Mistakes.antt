@@ -1,0 +1,72 @@
+-- "What students will try", the three that are about these rules: each is ruled out. (The others are about views and stamps.) Assumes nothing.
+use mathlib.Core.Path.{_≡_, sym}
+use mathlib.Core.Logic.{_≢_}
+use mathlib.Core.Bool.{true, false, not, and-eq-true-iff, and-false}
+use mathlib.Core.List.{List, [], _∷_}
+use Prim.Native.Nat.{ℕ}
+use native.Mathlib.Omega.{arith}
+use lib.Dec.{eqb}
+use borrow.Author.Tests.{eqb-true, not-true, not-false, ne-eqb}
+use Rattle.views.proofs.Sets.{inside-lt, inside-fact}
+use Rattle.views.proofs.Truth.{never-true, cases}
+use Rattle.rules.specs.Sets.{_&&_, _||_, if_then_else_, member, inside}
+use Rattle.rules.specs.Stamps.{Pair}
+use Rattle.rules.specs.Messages.{viewReply, pairReply, ack, not-yet, refused, quietly}
+use Rattle.rules.specs.State.{Desk, Transfer, Relay}
+use Rattle.rules.specs.Relays.{isFor, transferFor, putTransfer, early, installHeard}
+use Rattle.rules.specs.Desks.{isIdle, isFirst, isSecond, current, viewCame, pairCame, ackCame, deskHears}
+use Rattle.rules.specs.WellFormed.{goodMove, goodRelay}
+use Rattle.rules.proofs.Relays.{rel-facts}
+use Rattle.rules.proofs.Transfers.{move-facts, for-pair}
+
+-- ---- "Letting a reply from an older try complete a quorum."
+-- "A reply with another try, of the other phase's kind, from no member of the desk's view, or to an idle desk does nothing."
+
+pub another-try : (d : Desk) (from try : ℕ) → try ≢ d .tries → current d from try ≡ false
+another-try d from try h = never-true (current d from try) (λ e.
+    h (eqb-true try _ (and-eq-true-iff (eqb try _) (member (d .view) from) .0 (and-eq-true-iff (not (isIdle (d .phase))) _ .0 e .1) .0)))
+
+pub no-member : (d : Desk) (from try : ℕ) → member (d .view) from ≡ false → current d from try ≡ false
+no-member d from try h = rw (h, and-false (eqb try (d .tries))) (and-false (not (isIdle (d .phase))))
+
+pub idle-desk : (d : Desk) (from try : ℕ) → isIdle (d .phase) ≡ true → current d from try ≡ false
+idle-desk d from try h = rw h
+
+module _ (n : ℕ) (d : Desk) (from try : ℕ) where
+  pub view-ignored : (v : ℕ) → current d from try ≡ false → deskHears n d from (viewReply try v) ≡ quietly d
+  unfolding deskHears viewCame
+  view-ignored v h = rw h
+
+  pub pair-ignored : (p : Pair) → current d from try && isFirst (d .phase) ≡ false → deskHears n d from (pairReply try p) ≡ quietly d
+  unfolding deskHears pairCame
+  pair-ignored p h = rw h
+
+  pub ack-ignored : current d from try && isSecond (d .phase) ≡ false → deskHears n d from (ack try) ≡ quietly d
+  unfolding deskHears ackCame
+  ack-ignored h = rw h
+
+-- ---- "Sending state before entering." A member of o that has not entered must wait.
+
+pub unentered-waits : (s : ℕ) (r : Relay) (o w : ℕ) (q : List ℕ) → goodRelay s r ≡ true → goodMove o w ≡ true → member o s ≡ true → r .entered ≡ false
+    → installHeard s r o w q ≡ refused not-yet
+unfolding installHeard
+unentered-waits s r o w q g mv m e =
+    let none : r .view ≡ 0 = eqb-true (r .view) 0 (not-false _ (not-true _ (rw e at (rel-facts s r g .entered)))) in
+    let other : eqb 0 o ≡ false = ne-eqb 0 o (λ z. move-facts o w mv .some (sym z)) in
+    let apart : inside o 0 ≡ false = never-true (inside o 0) (λ i. omega (arith, inside-lt (inside-fact o 0 i))) in
+    let out : not (eqb 0 o || inside o 0) ≡ true = rw (other, apart) in
+    let early-now : early s r o ≡ true = rw (m, none) out in
+    rw early-now
+
+-- ---- "Counting state of another pair." What is put back for one pair is not found for another.
+
+pub other-pair : (o w : ℕ) (t : Transfer) (us : List Transfer) → isFor o w t ≡ false → transferFor o w (putTransfer t us) ≡ transferFor o w us
+unfolding transferFor putTransfer
+other-pair o w t [] h = rw h
+other-pair o w t (u ∷ us) h =
+    let r : transferFor o w (putTransfer t us) ≡ transferFor o w us = other-pair o w t us h in
+    cases (λ (l : List Transfer). transferFor o w l ≡ (if isFor o w u then u else transferFor o w us)) (isFor (t .old) (t .new) u)
+    (λ e.
+    let same = for-pair (t .old) (t .new) u e in
+    rw (same .0, same .1, h))
+    (λ _. rw r)

@@ -1,0 +1,95 @@
+-- Demand 3 holds of document 01's worked example: the statement has an instance with a write and a read in it. Assumes nothing.
+use mathlib.Core.Path.{_≡_, refl, ap}
+use mathlib.Core.Logic.{_⊎_, inl, inr}
+use mathlib.Core.Bool.{true}
+use mathlib.Core.List.{List, [], _∷_, List·Memᴰ·head, List·Memᴰ·tail, List·Memᴰ·not-nil, List·Memᴰ·cases-cons, List·Memᴰ·eq-of-singleton}
+use Prim.Native.Nat.{ℕ}
+use native.Mathlib.Omega.{arith}
+use Rattle.views.proofs.Truth.{contrary}
+use Rattle.rules.specs.Sets.{within}
+use Rattle.rules.specs.Stamps.{Pair, sign, compared, greater}
+use Rattle.rules.specs.Steps.{Step}
+use Rattle.rules.specs.History.{reading, writing, Operation, endedIn, toldIn, operations, unfinishedIn, unfinished, openedIn, openViews}
+use Rattle.rules.specs.Demand3.{ended, _∈_, Belongs, returned, latest, Next, first, next, Demand3}
+use Rattle.rules.specs.Examples.{recorded}
+
+abbrev step : ℕ → ℕ → ℕ → Step
+step k i x = record { kind = k; id = i; value = x }
+
+abbrev steps : List Step
+steps = step 5 0 77 ∷ step 6 0 0 ∷ step 6 0 0 ∷ step 6 0 0 ∷ step 6 0 0 ∷ step 4 1 0 ∷ step 6 0 0 ∷ step 6 0 0 ∷ step 6 0 0 ∷ []
+
+abbrev pair : Pair
+pair = record { stamp = record { count = 1; desk = 0 }; value = 77 }
+
+abbrev wrote : Operation
+wrote = record { desk = 0; task = writing 77; begun = 1; ended = 5; pair = pair }
+
+abbrev had : Operation
+had = record { desk = 1; task = reading; begun = 6; ended = 8; pair = pair }
+
+ops : operations 1 steps ≡ wrote ∷ had ∷ []
+unfolding recorded operations endedIn
+ops = refl
+
+open-writes : unfinished 1 steps ≡ []
+unfolding recorded unfinished unfinishedIn toldIn
+open-writes = refl
+
+views : openViews 1 steps ≡ 1 ∷ []
+unfolding recorded openViews openedIn
+views = refl
+
+one-view : (u : ℕ) → u ∈ openViews 1 steps → u ≡ 1
+one-view u m = List·Memᴰ·eq-of-singleton (rw views at m)
+
+swap : (o : Operation) → o ∈ operations 1 steps → o ∈ (had ∷ wrote ∷ [])
+swap o m = go (List·Memᴰ·cases-cons (rw ops at m))
+  where
+    go : (o ≡ wrote) ⊎ (o ∈ (had ∷ [])) → o ∈ (had ∷ wrote ∷ [])
+    go (inl e) = List·Memᴰ·tail (List·Memᴰ·head e)
+    go (inr h) = List·Memᴰ·head (List·Memᴰ·eq-of-singleton h)
+
+complete : (o : Operation) → Belongs 1 steps o → o ∈ (had ∷ wrote ∷ [])
+complete o (ended m) = swap o m
+complete o (returned m n r e) = absurd (List·Memᴰ·not-nil (rw open-writes at m))
+
+back : (o : Operation) → (o ≡ had) ⊎ (o ∈ (wrote ∷ [])) → o ∈ operations 1 steps
+back o (inl e) = rw ops (List·Memᴰ·tail (List·Memᴰ·head e))
+back o (inr h) = rw ops (List·Memᴰ·head (List·Memᴰ·eq-of-singleton h))
+
+differ : had ≡ wrote → ⊥
+differ e = let z : _≡_ {A = ℕ} 1 0 = ap (λ (o : Operation). o .desk) e in omega arith
+
+last : Next had (wrote ∷ [])
+unfolding latest greater compared sign
+last =
+    record {
+      once = λ m. differ (List·Memᴰ·eq-of-singleton m);
+      timely = λ p m b. let e : p .begun ≡ 1 = ap (λ (o : Operation). o .begun) (List·Memᴰ·eq-of-singleton m) in omega (arith, b .1);
+      returns = λ r. refl;
+      rises = λ p m. ap (λ (o : Operation). greater (o .pair .stamp) (pair .stamp)) (List·Memᴰ·eq-of-singleton m);
+    }
+
+only : Next wrote []
+unfolding latest
+only =
+    record {
+      once = λ m. List·Memᴰ·not-nil m;
+      timely = λ p m b. List·Memᴰ·not-nil m;
+      returns = λ r. absurd (contrary r refl);
+      rises = λ p m. absurd (List·Memᴰ·not-nil m);
+    }
+
+pub worked : Demand3 1 steps
+worked =
+    record {
+      nested = λ u v mu mv. inl (both-one u v (one-view u mu) (one-view v mv));
+      order = had ∷ wrote ∷ [];
+      complete = complete;
+      sound = λ o m. ended (back o (List·Memᴰ·cases-cons m));
+      ordered = next last (next only first);
+    }
+  where
+    both-one : (u v : ℕ) → u ≡ 1 → v ≡ 1 → within u v ≡ true
+    both-one u v eu ev = rw (eu, ev)

@@ -1,0 +1,262 @@
+-- "One lent buffer of exactly 65,536 bytes. One state has one image: unused room is zero." Numbers are high byte first. Assumes nothing.
+--
+-- relay (5,440 bytes)      alive 1, entered 1, active 1, view 2, known 2, pending 2, stamp and value 7, zeros to 64; 8 generators; 8 transfers
+-- generator (592)          view 2, own 31, converged 31, raised 31, 8 proposals of 31, 8 convergences of 31, a zero
+-- transfer (80)            old view 2, new view 2, sequence 31, who has sent state 1, best stamp and value 7, updates gathered 2, zeros
+-- desk (64)                alive 1, phase 1, view 2, try 2, stamp and value 7, who replied 1, best reply 7, agreed 1, zeros
+-- message (80)             kind 1 (0: the place is free), sender 1, receiver 1, two views of 2, try 2, sequence 31, stamp and value 7, updates 2, zeros
+-- sequence (31)            15 views of 2, how many 1
+-- stamp and value (7)      count 2, desk 1, value 4
+--
+-- 8 relays, 4 desks, 256 messages, 1,280 zeros. A generator or transfer place that is not filled is zero.
+use mathlib.Core.Bool.{Bool, not}
+use mathlib.Core.List.{List, [], _∷_, _++_}
+use Prim.Native.Nat.{ℕ, _+_, _*_}
+use lib.Dec.{eqb, leb}
+use lib.ListN.{length, getD, take}
+use Rattle.rows.specs.Bytes.{be16, be32, u16At, u32At, run, tab, cat, table, zeros}
+use Rattle.rules.specs.Sets.{if_then_else_, _&&_, same, those}
+use Rattle.rules.specs.Stamps.{Pair, zeroPair}
+use Rattle.rules.specs.Messages.{Body, request, view, proposal, converged, install, state, get, put, viewReply, pairReply, ack}
+use Rattle.rules.specs.State.{Generator, Transfer, Relay, noRelay, Phase, Idle, Read1, Read2, Write1, Write2, Desk, noDesk, Place, free, waiting, World}
+use Rattle.rules.specs.Generators.{fresh}
+use Rattle.rules.specs.Relays.{freshTransfer}
+use Rattle.rules.specs.WellFormed.{wellFormed}
+
+-- ---- a state in bytes
+
+abbrev pub flag : Bool → List ℕ
+flag b = (if b then 1 else 0) ∷ []
+
+abbrev pub byte : ℕ → List ℕ
+byte x = x ∷ []
+
+unfoldable pub sequenceBytes : List ℕ → List ℕ
+sequenceBytes q = run 15 (λ k. be16 (getD q k 0)) ++ byte (length q)
+
+unfoldable pub pairBytes : Pair → List ℕ
+pairBytes p = cat (be16 (p .stamp .count) ∷ byte (p .stamp .desk) ∷ be32 (p .value) ∷ [])
+
+unfoldable pub headBytes : Relay → List ℕ
+headBytes r =
+    cat (
+    flag (r .alive) ∷ flag (r .entered) ∷ flag (r .active)
+    ∷ be16 (r .view) ∷ be16 (r .known) ∷ be16 (r .pending)
+    ∷ pairBytes (r .holds)
+    ∷ zeros 48
+    ∷ [])
+
+unfoldable pub generatorBytes : Generator → List ℕ
+generatorBytes g =
+    cat (
+    be16 (g .view)
+    ∷ sequenceBytes (g .own) ∷ sequenceBytes (g .converged) ∷ sequenceBytes (g .raised)
+    ∷ table sequenceBytes [] 8 (g .proposals) ∷ table sequenceBytes [] 8 (g .convergences)
+    ∷ zeros 1
+    ∷ [])
+
+unfoldable pub transferBytes : Transfer → List ℕ
+transferBytes t =
+    cat (
+    be16 (t .old) ∷ be16 (t .new)
+    ∷ sequenceBytes (t .sequence)
+    ∷ byte (t .senders)
+    ∷ pairBytes (t .best)
+    ∷ be16 (t .gathered)
+    ∷ zeros 35
+    ∷ [])
+
+unfoldable pub relayBytes : Relay → List ℕ
+relayBytes r =
+    cat (
+    headBytes r
+    ∷ table generatorBytes (fresh 0) 8 (r .generators)
+    ∷ table transferBytes (freshTransfer 0 0) 8 (r .transfers)
+    ∷ [])
+
+abbrev pub phaseNumber : Phase → ℕ
+phaseNumber Idle = 0
+phaseNumber Read1 = 1
+phaseNumber Read2 = 2
+phaseNumber Write1 = 3
+phaseNumber Write2 = 4
+
+unfoldable pub deskBytes : Desk → List ℕ
+deskBytes d =
+    cat (
+    flag (d .alive)
+    ∷ byte (phaseNumber (d .phase))
+    ∷ be16 (d .view) ∷ be16 (d .tries)
+    ∷ pairBytes (d .holds)
+    ∷ byte (d .replied)
+    ∷ pairBytes (d .best)
+    ∷ flag (d .agreed)
+    ∷ zeros 42
+    ∷ [])
+
+-- a message with a field for everything that some kind says; what its own kind does not say is zero
+pub record Row : Type 0 where
+  pub kind : ℕ
+  pub from : ℕ
+  pub to : ℕ
+  pub first : ℕ
+  pub second : ℕ
+  pub tries : ℕ
+  pub sequence : List ℕ
+  pub pair : Pair
+  pub updates : ℕ
+
+abbrev pub row : ℕ → ℕ → ℕ → ℕ → ℕ → ℕ → List ℕ → Pair → ℕ → Row
+row kind from to first second tries q p u =
+    record { kind = kind; from = from; to = to; first = first; second = second; tries = tries; sequence = q; pair = p; updates = u }
+
+abbrev pub bodyRow : ℕ → ℕ → Body → Row
+bodyRow s r (request u c) = row 1 s r c 0 0 [] zeroPair u
+bodyRow s r (view v) = row 2 s r v 0 0 [] zeroPair 0
+bodyRow s r (proposal v q) = row 3 s r v 0 0 q zeroPair 0
+bodyRow s r (converged v q) = row 4 s r v 0 0 q zeroPair 0
+bodyRow s r (install o w q) = row 5 s r o w 0 q zeroPair 0
+bodyRow s r (state o w p u) = row 6 s r o w 0 [] p u
+bodyRow s r (get try c) = row 7 s r c 0 try [] zeroPair 0
+bodyRow s r (put try c p) = row 8 s r c 0 try [] p 0
+bodyRow s r (viewReply try v) = row 9 s r v 0 try [] zeroPair 0
+bodyRow s r (pairReply try p) = row 10 s r 0 0 try [] p 0
+bodyRow s r (ack try) = row 11 s r 0 0 try [] zeroPair 0
+
+abbrev pub placeRow : Place → Row
+placeRow free = row 0 0 0 0 0 0 [] zeroPair 0
+placeRow (waiting m) = bodyRow (m .from) (m .to) (m .body)
+
+unfoldable pub rowBytes : Row → List ℕ
+rowBytes m =
+    cat (
+    byte (m .kind) ∷ byte (m .from) ∷ byte (m .to)
+    ∷ be16 (m .first) ∷ be16 (m .second) ∷ be16 (m .tries)
+    ∷ sequenceBytes (m .sequence)
+    ∷ pairBytes (m .pair)
+    ∷ be16 (m .updates)
+    ∷ zeros 31
+    ∷ [])
+
+unfoldable pub placeBytes : Place → List ℕ
+placeBytes p = rowBytes (placeRow p)
+
+unfoldable pub image : World → List ℕ
+image w =
+    cat (
+    table relayBytes noRelay 8 (w .relays)
+    ∷ table deskBytes noDesk 4 (w .desks)
+    ∷ table placeBytes free 256 (w .places)
+    ∷ zeros 1280
+    ∷ [])
+
+-- ---- what bytes mean, whatever they are: read from index i on
+
+abbrev pub flagAt : List ℕ → ℕ → Bool
+flagAt b i = eqb (getD b i 0) 1
+
+unfoldable pub sequenceAt : List ℕ → ℕ → List ℕ
+sequenceAt b i = take (getD b (i + 30) 0) (tab 15 (λ k. u16At b (i + 2 * k)))
+
+unfoldable pub pairAt : List ℕ → ℕ → Pair
+pairAt b i = record { stamp = record { count = u16At b i; desk = getD b (i + 2) 0 }; value = u32At b (i + 3) }
+
+unfoldable pub generatorAt : List ℕ → ℕ → Generator
+generatorAt b i =
+    record {
+      view = u16At b i;
+      own = sequenceAt b (i + 2);
+      converged = sequenceAt b (i + 33);
+      raised = sequenceAt b (i + 64);
+      proposals = tab 8 (λ k. sequenceAt b (i + 95 + k * 31));
+      convergences = tab 8 (λ k. sequenceAt b (i + 343 + k * 31));
+    }
+
+unfoldable pub transferAt : List ℕ → ℕ → Transfer
+transferAt b i =
+    record {
+      old = u16At b i;
+      new = u16At b (i + 2);
+      sequence = sequenceAt b (i + 4);
+      senders = getD b (i + 35) 0;
+      best = pairAt b (i + 36);
+      gathered = u16At b (i + 43);
+    }
+
+-- a place is filled where its view, or its new view, is not 0
+abbrev pub filledGenerator : Generator → Bool
+filledGenerator g = not (eqb (g .view) 0)
+
+abbrev pub filledTransfer : Transfer → Bool
+filledTransfer t = not (eqb (t .new) 0)
+
+unfoldable pub relayAt : List ℕ → ℕ → Relay
+relayAt b i =
+    record {
+      alive = flagAt b i;
+      view = u16At b (i + 3);
+      entered = flagAt b (i + 1);
+      active = flagAt b (i + 2);
+      known = u16At b (i + 5);
+      pending = u16At b (i + 7);
+      holds = pairAt b (i + 9);
+      generators = those filledGenerator (tab 8 (λ k. generatorAt b (i + 64 + k * 592)));
+      transfers = those filledTransfer (tab 8 (λ k. transferAt b (i + 4800 + k * 80)));
+    }
+
+abbrev pub phaseOf : ℕ → Phase
+phaseOf n = if eqb n 1 then Read1 else if eqb n 2 then Read2 else if eqb n 3 then Write1 else if eqb n 4 then Write2 else Idle
+
+unfoldable pub deskAt : List ℕ → ℕ → Desk
+deskAt b i =
+    record {
+      alive = flagAt b i;
+      view = u16At b (i + 2);
+      phase = phaseOf (getD b (i + 1) 0);
+      tries = u16At b (i + 4);
+      holds = pairAt b (i + 6);
+      replied = getD b (i + 13) 0;
+      best = pairAt b (i + 14);
+      agreed = flagAt b (i + 21);
+    }
+
+unfoldable pub rowAt : List ℕ → ℕ → Row
+rowAt b i =
+    row (getD b i 0) (getD b (i + 1) 0) (getD b (i + 2) 0)
+    (u16At b (i + 3)) (u16At b (i + 5)) (u16At b (i + 7))
+    (sequenceAt b (i + 9)) (pairAt b (i + 40)) (u16At b (i + 47))
+
+-- what a row of a kind 1 to 11 says
+unfoldable pub bodyIn : Row → Body
+bodyIn m =
+    if eqb (m .kind) 1 then request (m .updates) (m .first)
+    else if eqb (m .kind) 2 then view (m .first)
+    else if eqb (m .kind) 3 then proposal (m .first) (m .sequence)
+    else if eqb (m .kind) 4 then converged (m .first) (m .sequence)
+    else if eqb (m .kind) 5 then install (m .first) (m .second) (m .sequence)
+    else if eqb (m .kind) 6 then state (m .first) (m .second) (m .pair) (m .updates)
+    else if eqb (m .kind) 7 then get (m .tries) (m .first)
+    else if eqb (m .kind) 8 then put (m .tries) (m .first) (m .pair)
+    else if eqb (m .kind) 9 then viewReply (m .tries) (m .first)
+    else if eqb (m .kind) 10 then pairReply (m .tries) (m .pair)
+    else ack (m .tries)
+
+unfoldable pub placeIn : Row → Place
+placeIn m =
+    if leb 1 (m .kind) && leb (m .kind) 11
+    then waiting (record { from = m .from; to = m .to; body = bodyIn m })
+    else free
+
+unfoldable pub worldAt : List ℕ → World
+worldAt b =
+    record {
+      relays = tab 8 (λ k. relayAt b (k * 5440));
+      desks = tab 4 (λ k. deskAt b (43520 + k * 64));
+      places = tab 256 (λ k. placeIn (rowAt b (43776 + k * 80)));
+    }
+
+-- ---- "A world is good exactly when its length is right, every field is in range, [..] and the rest is zero."
+-- The bytes are the image of a well-formed world: of the one that they mean.
+
+unfoldable pub goodBytes : List ℕ → Bool
+goodBytes b = eqb (length b) 65536 && (wellFormed (worldAt b) && same (image (worldAt b)) b)

@@ -1,0 +1,21 @@
+-- To be read in this order, beside document 01. The rules are Sets to Steps; none of them speaks of bytes. WellFormed says which worlds are good, Image what
+-- bytes mean, Lent what a step does to a lent buffer.
+pub mod Sets
+pub mod Stamps
+pub mod Messages
+pub mod State
+pub mod Generators
+pub mod Relays
+pub mod Desks
+pub mod Sending
+pub mod Steps
+pub mod WellFormed
+pub mod Image
+pub mod Lent
+pub mod Sheets
+pub mod Runs
+pub mod History
+pub mod Demand3
+-- document 01's examples, computed
+pub mod Classroom
+pub mod Examples
