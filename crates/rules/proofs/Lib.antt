@@ -14,3 +14,12 @@ pub mod Sheets
 pub mod Rooms
 pub mod Mistakes
 pub mod Worked
+pub mod ImageWidths
+pub mod ImageFits
+pub mod ImageRows
+pub mod ImageWorld
+pub mod ImageChange
+pub mod ImageWrite
+pub mod ImageRead
+pub mod ImageZeros
+pub mod ImageBytes

@@ -1,0 +1,65 @@
+-- What the image of a world holds at each part's place, and what is read there. Assumes nothing.
+use mathlib.Core.Path.{_≡_}
+use mathlib.Core.List.{List}
+use Prim.Native.Nat.{ℕ, _+_, _*_, _<_}
+use native.Mathlib.Nat.{zero-add}
+use lib.ListN.{getD}
+use Rattle.rows.proofs.Laws.{Holds}
+use Rattle.rows.proofs.Tables.{table-holds}
+use Rattle.rules.specs.State.{Relay, noRelay, noDesk, free, World}
+use Rattle.rules.specs.State as state
+use Rattle.rules.specs.Generators.{fresh}
+use Rattle.rules.specs.Relays.{freshTransfer}
+use Rattle.rules.specs.Image.{headBytes, generatorBytes, transferBytes, relayBytes, deskBytes, placeBytes, image, generatorAt, transferAt, relayAt, deskAt, rowAt, placeIn}
+use Rattle.rules.proofs.ImageWidths.{length-generator, length-transfer, length-relay, length-desk, length-place}
+use Rattle.rules.proofs.ImageRows.{generator-back, transfer-back, relay-back, desk-back, place-back, holds-head, holds-generators, holds-transfers}
+use Rattle.rules.proofs.ImageWorld.{WorldFits, holds-relays, holds-desks, holds-places}
+
+-- ---- in a relay's region, wherever it stands
+
+module _ (l : List ℕ) (o : ℕ) (r : Relay) (h : Holds l o (relayBytes r)) (i : ℕ) (hi : i < 8) where
+  pub holds-generator : Holds l (o + 64 + i * 592) (generatorBytes (getD (r .generators) i (fresh 0)))
+  holds-generator = table-holds generatorBytes (fresh 0) 592 8 length-generator l (o + 64) i (r .generators) hi (holds-generators l o r h)
+
+  pub holds-transfer : Holds l (o + 4800 + i * 80) (transferBytes (getD (r .transfers) i (freshTransfer 0 0)))
+  holds-transfer = table-holds transferBytes (freshTransfer 0 0) 80 8 length-transfer l (o + 4800) i (r .transfers) hi (holds-transfers l o r h)
+
+-- ---- in the image
+
+module _ (w : World) where
+  pub holds-desk : (n : ℕ) → n < 4 → Holds (image w) (43520 + n * 64) (deskBytes (state.deskAt w n))
+  holds-desk n h = table-holds deskBytes noDesk 64 4 length-desk (image w) 43520 n (w .desks) h (holds-desks w)
+
+  pub holds-place : (p : ℕ) → p < 256 → Holds (image w) (43776 + p * 80) (placeBytes (state.placeAt w p))
+  holds-place p h = table-holds placeBytes free 80 256 length-place (image w) 43776 p (w .places) h (holds-places w)
+
+module _ (w : World) (s : ℕ) (hs : s < 8) where
+  pub holds-relay : Holds (image w) (s * 5440) (relayBytes (state.relayAt w s))
+  holds-relay = rw zero-add at (table-holds relayBytes noRelay 5440 8 length-relay (image w) 0 s (w .relays) hs (holds-relays w))
+
+  pub image-head : Holds (image w) (s * 5440) (headBytes (state.relayAt w s))
+  image-head = holds-head (image w) (s * 5440) (state.relayAt w s) holds-relay
+
+  pub image-generator : (i : ℕ) → i < 8 → Holds (image w) (s * 5440 + 64 + i * 592) (generatorBytes (getD (state.relayAt w s .generators) i (fresh 0)))
+  image-generator = holds-generator (image w) (s * 5440) (state.relayAt w s) holds-relay
+
+  pub image-transfer : (i : ℕ) → i < 8 → Holds (image w) (s * 5440 + 4800 + i * 80) (transferBytes (getD (state.relayAt w s .transfers) i (freshTransfer 0 0)))
+  image-transfer = holds-transfer (image w) (s * 5440) (state.relayAt w s) holds-relay
+
+-- ---- and so what is read there, of a world that fits
+
+module _ (w : World) (f : WorldFits w) where
+  pub read-desk : (n : ℕ) → n < 4 → deskAt (image w) (43520 + n * 64) ≡ state.deskAt w n
+  read-desk n h = desk-back (image w) (43520 + n * 64) (state.deskAt w n) (f .desk n) (holds-desk w n h)
+
+  pub read-place : (p : ℕ) → p < 256 → placeIn (rowAt (image w) (43776 + p * 80)) ≡ state.placeAt w p
+  read-place p h = place-back (image w) (43776 + p * 80) (state.placeAt w p) (f .place p) (holds-place w p h)
+
+  pub read-relay : (s : ℕ) → s < 8 → relayAt (image w) (s * 5440) ≡ state.relayAt w s
+  read-relay s hs = relay-back (image w) (s * 5440) (state.relayAt w s) (f .relay s) (holds-relay w s hs)
+
+  pub read-generator : (s i : ℕ) → s < 8 → i < 8 → generatorAt (image w) (s * 5440 + 64 + i * 592) ≡ getD (state.relayAt w s .generators) i (fresh 0)
+  read-generator s i hs hi = generator-back (image w) (s * 5440 + 64 + i * 592) _ (f .relay s .generators .each i) (image-generator w s hs i hi)
+
+  pub read-transfer : (s i : ℕ) → s < 8 → i < 8 → transferAt (image w) (s * 5440 + 4800 + i * 80) ≡ getD (state.relayAt w s .transfers) i (freshTransfer 0 0)
+  read-transfer s i hs hi = transfer-back (image w) (s * 5440 + 4800 + i * 80) _ (f .relay s .transfers .each i) (image-transfer w s hs i hi)

@@ -1,0 +1,206 @@
+-- How wide each part of the image of a world is, for every value: the widths of a row's fields, and of the row. Assumes nothing.
+use mathlib.Core.Path.{_≡_, refl}
+use mathlib.Core.List.{List, [], _∷_}
+use Prim.Native.Nat.{ℕ}
+use lib.ListN.{length, getD, length-append}
+use native.Mathlib.Omega.{arith}
+use Rattle.rows.specs.Bytes.{be16, be32, table, zeros}
+use Rattle.rows.proofs.Laws.{length-run}
+use Rattle.rows.proofs.Numbers.{length-bytesOf}
+use Rattle.rows.proofs.Fields.{Widths, none, more, cat-length}
+use Rattle.rows.proofs.Tables.{table-length, length-zeros}
+use Rattle.rules.specs.Stamps.{Pair}
+use Rattle.rules.specs.State.{Generator, Transfer, Relay, noRelay, Desk, noDesk, Place, free, World}
+use Rattle.rules.specs.Generators.{fresh}
+use Rattle.rules.specs.Relays.{freshTransfer}
+use Rattle.rules.specs.Image.{flag, byte, sequenceBytes, pairBytes, headBytes, generatorBytes, transferBytes, relayBytes, phaseNumber, deskBytes, Row, placeRow, rowBytes, placeBytes, image}
+
+pub length-sequence : (q : List ℕ) → length (sequenceBytes q) ≡ 31
+unfolding sequenceBytes
+length-sequence q = simp length-append (omega (arith, length-run 2 15 (λ k. be16 (getD q k 0)) (λ k. length-bytesOf 2 (getD q k 0))))
+
+-- ---- a stamp and its value
+
+abbrev pub pairFields : Pair → List (List ℕ)
+pairFields p = be16 (p .stamp .count) ∷ byte (p .stamp .desk) ∷ be32 (p .value) ∷ []
+
+abbrev pub pairWidths : List ℕ
+pairWidths = 2 ∷ 1 ∷ 4 ∷ []
+
+pub pair-widths : (p : Pair) → Widths (pairFields p) pairWidths
+pair-widths p = more (length-bytesOf 2 _) (more refl (more (length-bytesOf 4 _) none))
+
+pub length-pair : (p : Pair) → length (pairBytes p) ≡ 7
+unfolding pairBytes
+length-pair p = cat-length (pair-widths p)
+
+-- ---- a relay's head
+
+abbrev pub headFields : Relay → List (List ℕ)
+headFields r =
+    flag (r .alive) ∷ flag (r .entered) ∷ flag (r .active)
+    ∷ be16 (r .view) ∷ be16 (r .known) ∷ be16 (r .pending)
+    ∷ pairBytes (r .holds)
+    ∷ zeros 48
+    ∷ []
+
+abbrev pub headWidths : List ℕ
+headWidths = 1 ∷ 1 ∷ 1 ∷ 2 ∷ 2 ∷ 2 ∷ 7 ∷ 48 ∷ []
+
+pub head-widths : (r : Relay) → Widths (headFields r) headWidths
+head-widths r =
+    more refl (more refl (more refl (more (length-bytesOf 2 _) (more (length-bytesOf 2 _) (more (length-bytesOf 2 _)
+    (more (length-pair (r .holds)) (more (length-zeros 48) none)))))))
+
+pub length-head : (r : Relay) → length (headBytes r) ≡ 64
+unfolding headBytes
+length-head r = cat-length (head-widths r)
+
+-- ---- a generator
+
+abbrev pub generatorFields : Generator → List (List ℕ)
+generatorFields g =
+    be16 (g .view)
+    ∷ sequenceBytes (g .own) ∷ sequenceBytes (g .converged) ∷ sequenceBytes (g .raised)
+    ∷ table sequenceBytes [] 8 (g .proposals) ∷ table sequenceBytes [] 8 (g .convergences)
+    ∷ zeros 1
+    ∷ []
+
+abbrev pub generatorWidths : List ℕ
+generatorWidths = 2 ∷ 31 ∷ 31 ∷ 31 ∷ 248 ∷ 248 ∷ 1 ∷ []
+
+pub generator-widths : (g : Generator) → Widths (generatorFields g) generatorWidths
+generator-widths g =
+    more (length-bytesOf 2 _) (more (length-sequence (g .own)) (more (length-sequence (g .converged)) (more (length-sequence (g .raised))
+    (more (notes (g .proposals)) (more (notes (g .convergences)) (more (length-zeros 1) none))))))
+  where
+    notes : (ns : List (List ℕ)) → length (table sequenceBytes [] 8 ns) ≡ 248
+    notes = table-length sequenceBytes [] 31 8 length-sequence
+
+pub length-generator : (g : Generator) → length (generatorBytes g) ≡ 592
+unfolding generatorBytes
+length-generator g = cat-length (generator-widths g)
+
+-- ---- a transfer
+
+abbrev pub transferFields : Transfer → List (List ℕ)
+transferFields t =
+    be16 (t .old) ∷ be16 (t .new)
+    ∷ sequenceBytes (t .sequence)
+    ∷ byte (t .senders)
+    ∷ pairBytes (t .best)
+    ∷ be16 (t .gathered)
+    ∷ zeros 35
+    ∷ []
+
+abbrev pub transferWidths : List ℕ
+transferWidths = 2 ∷ 2 ∷ 31 ∷ 1 ∷ 7 ∷ 2 ∷ 35 ∷ []
+
+pub transfer-widths : (t : Transfer) → Widths (transferFields t) transferWidths
+transfer-widths t =
+    more (length-bytesOf 2 _) (more (length-bytesOf 2 _) (more (length-sequence (t .sequence)) (more refl (more (length-pair (t .best))
+    (more (length-bytesOf 2 _) (more (length-zeros 35) none))))))
+
+pub length-transfer : (t : Transfer) → length (transferBytes t) ≡ 80
+unfolding transferBytes
+length-transfer t = cat-length (transfer-widths t)
+
+-- ---- a relay
+
+abbrev pub relayFields : Relay → List (List ℕ)
+relayFields r =
+    headBytes r
+    ∷ table generatorBytes (fresh 0) 8 (r .generators)
+    ∷ table transferBytes (freshTransfer 0 0) 8 (r .transfers)
+    ∷ []
+
+abbrev pub relayWidths : List ℕ
+relayWidths = 64 ∷ 4736 ∷ 640 ∷ []
+
+pub relay-widths : (r : Relay) → Widths (relayFields r) relayWidths
+relay-widths r =
+    more (length-head r)
+    (more (table-length generatorBytes (fresh 0) 592 8 length-generator (r .generators))
+    (more (table-length transferBytes (freshTransfer 0 0) 80 8 length-transfer (r .transfers)) none))
+
+pub length-relay : (r : Relay) → length (relayBytes r) ≡ 5440
+unfolding relayBytes
+length-relay r = cat-length (relay-widths r)
+
+-- ---- a desk
+
+abbrev pub deskFields : Desk → List (List ℕ)
+deskFields d =
+    flag (d .alive)
+    ∷ byte (phaseNumber (d .phase))
+    ∷ be16 (d .view) ∷ be16 (d .tries)
+    ∷ pairBytes (d .holds)
+    ∷ byte (d .replied)
+    ∷ pairBytes (d .best)
+    ∷ flag (d .agreed)
+    ∷ zeros 42
+    ∷ []
+
+abbrev pub deskWidths : List ℕ
+deskWidths = 1 ∷ 1 ∷ 2 ∷ 2 ∷ 7 ∷ 1 ∷ 7 ∷ 1 ∷ 42 ∷ []
+
+pub desk-widths : (d : Desk) → Widths (deskFields d) deskWidths
+desk-widths d =
+    more refl (more refl (more (length-bytesOf 2 _) (more (length-bytesOf 2 _) (more (length-pair (d .holds)) (more refl (more (length-pair (d .best))
+    (more refl (more (length-zeros 42) none))))))))
+
+pub length-desk : (d : Desk) → length (deskBytes d) ≡ 64
+unfolding deskBytes
+length-desk d = cat-length (desk-widths d)
+
+-- ---- a message's row, and a place
+
+abbrev pub rowFields : Row → List (List ℕ)
+rowFields m =
+    byte (m .kind) ∷ byte (m .from) ∷ byte (m .to)
+    ∷ be16 (m .first) ∷ be16 (m .second) ∷ be16 (m .tries)
+    ∷ sequenceBytes (m .sequence)
+    ∷ pairBytes (m .pair)
+    ∷ be16 (m .updates)
+    ∷ zeros 31
+    ∷ []
+
+abbrev pub rowWidths : List ℕ
+rowWidths = 1 ∷ 1 ∷ 1 ∷ 2 ∷ 2 ∷ 2 ∷ 31 ∷ 7 ∷ 2 ∷ 31 ∷ []
+
+pub row-widths : (m : Row) → Widths (rowFields m) rowWidths
+row-widths m =
+    more refl (more refl (more refl (more (length-bytesOf 2 _) (more (length-bytesOf 2 _) (more (length-bytesOf 2 _)
+    (more (length-sequence (m .sequence)) (more (length-pair (m .pair)) (more (length-bytesOf 2 _) (more (length-zeros 31) none)))))))))
+
+pub length-row : (m : Row) → length (rowBytes m) ≡ 80
+unfolding rowBytes
+length-row m = cat-length (row-widths m)
+
+pub length-place : (p : Place) → length (placeBytes p) ≡ 80
+unfolding placeBytes
+length-place p = length-row (placeRow p)
+
+-- ---- a world
+
+abbrev pub worldTables : World → List (List ℕ)
+worldTables w =
+    table relayBytes noRelay 8 (w .relays)
+    ∷ table deskBytes noDesk 4 (w .desks)
+    ∷ table placeBytes free 256 (w .places)
+    ∷ zeros 1280
+    ∷ []
+
+abbrev pub worldWidths : List ℕ
+worldWidths = 43520 ∷ 256 ∷ 20480 ∷ 1280 ∷ []
+
+pub world-widths : (w : World) → Widths (worldTables w) worldWidths
+world-widths w =
+    more (table-length relayBytes noRelay 5440 8 length-relay (w .relays))
+    (more (table-length deskBytes noDesk 64 4 length-desk (w .desks))
+    (more (table-length placeBytes free 80 256 length-place (w .places))
+    (more (length-zeros 1280) none)))
+
+pub length-image : (w : World) → length (image w) ≡ 65536
+unfolding image
+length-image w = cat-length (world-widths w)

@@ -1,0 +1,197 @@
+-- What a rule at one relay must do to the log, and the rules that only send or use a generator. Assumes nothing.
+use mathlib.Core.Path.{_≡_, sym, _∙_}
+use mathlib.Core.Bool.{false, not, _&&_, _||_, and-eq-true-iff}
+use mathlib.Core.List.{List, [], _∷_}
+use Prim.Native.Nat.{ℕ, _+_, _<_}
+use native.Mathlib.Omega.{arith}
+use native.Mathlib.Decide.{ℕ-discrete}
+use lib.Dec.{eqb}
+use lib.Bits.{or-lt}
+use lib.Pow.{pow-mono}
+use borrow.Author.Tests.{eqb-true, eqb-false, eq-eqb, ne-eqb, not-true}
+use Rattle.views.proofs.Truth.{contrary, cases}
+use Rattle.views.proofs.Sets.{inside-or, within-test}
+use Rattle.views.proofs.Among.{has-first}
+use Rattle.views.proofs.Nested.{above-none, above-more}
+use Rattle.rules.specs.Sets.{joins, leaves, joined, member, within, inside}
+use Rattle.rules.specs.Messages.{request, view, Sending, toMembers, toOne, Event, nothing, opened, readDone, writeDone, Answer, refused, does, quietly, sends}
+use Rattle.rules.specs.State.{Generator, Relay, withKnown, withPending, withGenerators, crashedRelay}
+use Rattle.rules.specs.Generators.{generatorFor, putGenerator, Turn, proposes}
+use Rattle.rules.specs.Relays.{atGenerator, joinAsked, leaveAsked, timerRang, requestHeard, learns}
+use Rattle.safety.proofs.Lists.{All, all-none}
+use Rattle.safety.proofs.Bridge.{Kept}
+use Rattle.safety.proofs.Log.{Log, Active, by-timer, Sound}
+use Rattle.safety.proofs.Growth.{Since, stay, since-join, since-map, ByRelay, turning-by}
+use Rattle.safety.proofs.Ties.{GeneratorTied, RelayTied, SendingBacked}
+use Rattle.safety.proofs.Grown.{sent-alike, transfers-since, facts-turning, generator-turning}
+use Rattle.safety.proofs.Turns.{TurnDone, proposes-done}
+
+-- what an event of the relay k says of the log
+abbrev pub Tells : ℕ → Log → ℕ → Event → Type 0
+Tells start l k nothing = Unit {0}
+Tells start l k (opened v) = Active start l k v
+Tells start l k (readDone p) = ⊥
+Tells start l k (writeDone p) = ⊥
+
+pub record RelayStep (start : ℕ) (l : Log) (k : ℕ) (r : Relay) (ss : List Sending) (e : Event) : Type 0 where
+  pub log : Log
+  pub since : Since (ByRelay k) l log
+  pub sound : Sound start log
+  pub tied : RelayTied start log k r
+  pub sent : All (SendingBacked log k) ss
+  pub tells : Tells start log k e
+
+abbrev pub RelayDone : ℕ → Log → ℕ → Answer Relay → Type 0
+RelayDone start l k (refused x) = Unit {0}
+RelayDone start l k (does r ss e) = RelayStep start l k r ss e
+
+-- entries made before the rule's others
+pub after-entries : (start : ℕ) {l m : Log} {k : ℕ} → Since (ByRelay k) l m → (a : Answer Relay) → RelayDone start m k a → RelayDone start l k a
+after-entries start s (refused x) h = h
+after-entries start s (does r ss e) h = record {
+  log = h .log;
+  since = since-join s (h .since);
+  sound = h .sound;
+  tied = h .tied;
+  sent = h .sent;
+  tells = h .tells;
+}
+
+-- ---- parts of a relay that the log does not speak of
+
+module _ {start : ℕ} {l : Log} {k : ℕ} {r : Relay} (h : RelayTied start l k r) where
+  pub tied-known : (v : ℕ) → RelayTied start l k (withKnown r v)
+  unfolding withKnown
+  tied-known v = record {
+    facts = h .facts;
+    outside = h .outside;
+    inside = h .inside;
+    small = h .small;
+    view-small = h .view-small;
+    updates = h .updates;
+    generators = h .generators;
+    transfers = h .transfers;
+  }
+
+  pub tied-pending : (u : ℕ) → u < 65536 → RelayTied start l k (withPending r u)
+  unfolding withPending
+  tied-pending u s = record {
+    facts = h .facts;
+    outside = h .outside;
+    inside = h .inside;
+    small = h .small;
+    view-small = h .view-small;
+    updates = s;
+    generators = h .generators;
+    transfers = h .transfers;
+  }
+
+  pub tied-crashed : RelayTied start l k (crashedRelay r)
+  unfolding crashedRelay
+  tied-crashed = record {
+    facts = h .facts;
+    outside = h .outside;
+    inside = h .inside;
+    small = h .small;
+    view-small = h .view-small;
+    updates = h .updates;
+    generators = h .generators;
+    transfers = h .transfers;
+  }
+
+-- ---- a generator put back
+
+put-same : (g : Generator) (gs : List Generator) (v : ℕ) → g .view ≡ v → generatorFor v (putGenerator g gs) ≡ g
+unfolding generatorFor putGenerator
+put-same g [] v e = rw (eq-eqb (g .view) v e)
+put-same g (x ∷ gs) v e =
+    cases (λ (hs : List Generator). generatorFor v hs ≡ g) (eqb (x .view) (g .view))
+    (λ d. rw (eq-eqb (g .view) v e))
+    (λ d. rw (ne-eqb (x .view) v (λ f. eqb-false (x .view) (g .view) d (f ∙ sym e))) (put-same g gs v e))
+
+put-other : (g : Generator) (gs : List Generator) (v : ℕ) → (v ≡ g .view → ⊥) → generatorFor v (putGenerator g gs) ≡ generatorFor v gs
+unfolding generatorFor putGenerator
+put-other g [] v n = rw (ne-eqb (g .view) v (λ e. n (sym e)))
+put-other g (x ∷ gs) v n =
+    cases (λ (hs : List Generator). generatorFor v hs ≡ generatorFor v (x ∷ gs)) (eqb (x .view) (g .view))
+    (λ d. rw (ne-eqb (g .view) v (λ e. n (sym e)), ne-eqb (x .view) v (λ e. n (sym e ∙ eqb-true (x .view) (g .view) d))))
+    (λ d. rw (put-other g gs v n))
+
+module _ {start : ℕ} {l : Log} {k : ℕ} where
+  -- a rule at the generator for v
+  pub at-generator : {v : ℕ} (r : Relay) (t : Turn) → RelayTied start l k r → TurnDone start l k v t → RelayDone start l k (atGenerator r t)
+  unfolding atGenerator withGenerators
+  at-generator {v} r t h d = record {
+    log = d .log;
+    since = since-map (turning-by k v) (d .since);
+    sound = d .sound;
+    tied = record {
+      facts = facts-turning k v (d .since) (h .facts);
+      outside = h .outside;
+      inside = h .inside;
+      small = h .small;
+      view-small = h .view-small;
+      updates = h .updates;
+      generators = λ u. go u (ℕ-discrete u v);
+      transfers = transfers-since (d .since) (h .transfers);
+    };
+    sent = d .sent;
+    tells = tt;
+  }
+    where
+      go : (u : ℕ) → Dec (u ≡ v) → GeneratorTied (d .log) k u (generatorFor u (putGenerator (t .next) (r .generators)))
+      go u (yes e) = rw (put-same (t .next) (r .generators) u (d .tied .view-is ∙ sym e), e) (d .tied)
+      go u (no n) = rw (put-other (t .next) (r .generators) u (λ e. n (e ∙ d .tied .view-is))) (generator-turning k v u n (d .since) (h .generators u))
+
+  -- ---- rules without an entry
+
+  module _ (S : Sound start l) where
+    pub sends-only : (r : Relay) (ss : List Sending) → RelayTied start l k r → All (SendingBacked l k) ss → RelayDone start l k (sends r ss)
+    sends-only r ss h a = record { log = l; since = stay; sound = S; tied = h; sent = a; tells = tt }
+
+    pub nothing-done : (r : Relay) → RelayTied start l k r → RelayDone start l k (quietly r)
+    nothing-done r h = sends-only r [] h all-none
+
+    pub join-done : (r : Relay) → k < 8 → RelayTied start l k r → RelayDone start l k (joinAsked k r)
+    unfolding joinAsked
+    join-done r s h =
+        cases (RelayDone start l k) (r .entered || within (joins k) (r .known)) (λ e. tt)
+        (λ e. sends-only r (toMembers (r .known) (request (joins k) (r .known)) ∷ []) h (sent-alike l k (toMembers (r .known) (request (joins k) (r .known)))
+        (λ n. omega (arith, pow-mono {i = k} {j = 15} (omega arith)))))
+
+    pub leave-done : (r : Relay) → k < 8 → RelayTied start l k r → RelayDone start l k (leaveAsked k r)
+    unfolding leaveAsked
+    leave-done r s h =
+        cases (RelayDone start l k) (member (r .view) k)
+        (λ e. sends-only r (toMembers (r .view) (request (leaves k) (r .view)) ∷ []) h (sent-alike l k (toMembers (r .view) (request (leaves k) (r .view)))
+        (λ n. omega (arith, pow-mono {i = 8 + k} {j = 15} (omega arith))))) (λ e. tt)
+
+    -- "it proposes the sequence of one view, its own joined with the pending updates"
+    pub timer-done : (r : Relay) → RelayTied start l k r → RelayDone start l k (timerRang r)
+    unfolding timerRang
+    timer-done r h =
+        cases (RelayDone start l k) (r .active && not (within (r .pending) (r .view)))
+        (λ e.
+        let a = and-eq-true-iff (r .active) (not (within (r .pending) (r .view))) .0 e in
+        at-generator r (proposes (generatorFor (r .view) (r .generators)) (joined (r .view) (r .pending) ∷ [])) h
+        (proposes-done S (generatorFor (r .view) (r .generators)) (h .generators (r .view)) (by-timer (h .facts .opened (a .0))) (grown (not-true _ (a .1)))))
+        (λ e. tt)
+      where
+        grown : within (r .pending) (r .view) ≡ false → Kept (r .view) (joined (r .view) (r .pending) ∷ [])
+        grown e = record {
+          rising = above-more (inside-or (r .view) (r .pending) (λ w. contrary (within-test w) e)) (or-lt 16 (r .view) (r .pending) (h .view-small) (h .updates)) above-none;
+          view = joined (r .view) (r .pending);
+          has = has-first (joined (r .view) (r .pending)) [];
+        }
+
+    pub request-done : (r : Relay) (from u c : ℕ) → u < 65536 → RelayTied start l k r → RelayDone start l k (requestHeard r from u c)
+    unfolding requestHeard
+    request-done r from u c s h =
+        cases (RelayDone start l k) (not (r .entered)) (λ e. nothing-done r h)
+        (λ e. cases (RelayDone start l k) (eqb (r .view) c)
+        (λ d. nothing-done _ (cases (RelayTied start l k) (within u (r .view)) (λ f. h) (λ f. tied-pending h _ (or-lt 16 (r .pending) u (h .updates) s))))
+        (λ d. sends-only r (toOne from (view (r .view)) ∷ []) h (sent-alike l k (toOne from (view (r .view))) (λ n. tt))))
+
+    pub view-done : (r : Relay) (v : ℕ) → RelayTied start l k r → RelayDone start l k (quietly (learns r v))
+    unfolding learns
+    view-done r v h = nothing-done _ (cases (RelayTied start l k) (inside (r .known) v) (λ f. tied-known h v) (λ f. h))
