@@ -15,5 +15,6 @@ pub mod sets;
 pub mod sheet;
 pub mod stamp;
 pub mod step;
+pub mod text;
 pub mod transfer;
 pub mod world;
