@@ -1,0 +1,69 @@
+-- What the tests of a reply say. Assumes nothing.
+use Prim.Native.Nat.{ℕ, _<_, _≤_, _+_, _-_, _/_, _%_}
+use mathlib.Core.Path.{_≡_, refl}
+use mathlib.Core.Bool.{Bool, true, false, not, _&&_, _||_, and-eq-true-iff}
+use native.Mathlib.Omega.{arith}
+use lib.Dec.{eqb, leb}
+use lib.Bits.{and-le-l}
+use borrow.Author.Tests.{leb-true, eqb-false, ne-eqb}
+use Rattle.views.specs.View.{memberOf, membersOf}
+use Rattle.views.proofs.Truth.{cases, contrary}
+use Rattle.views.proofs.Digits.{bit-below}
+use Rattle.rules.specs.Sets.{if_then_else_, member}
+use Rattle.rules.specs.Messages as rules
+use Rattle.rules.specs.declared.Desk.{Desk}
+use Rattle.rules.specs.Image.{bodyIn}
+use Rattle.rules.specs.Desks.{isIdle, current, deskHears}
+use Rattle.state.specs.declared.Body.{Body}
+use Rattle.state.specs.Meaning.{bodyOf}
+
+pub or-if : (a b : Bool) → a || b ≡ (if a then true else b)
+or-if true b = refl
+or-if false b = refl
+
+-- only relays 0 to 7 are members
+member-below : (v s : ℕ) → memberOf v s ≡ true → s < 8
+unfolding memberOf
+member-below v s e = bit-below 8 (membersOf v) s (omega (arith, and-le-l (v % 256) (255 - v / 256))) e
+
+pub current-below : (d : Desk) (from try : ℕ) → current d from try ≡ true → from < 8
+current-below d from try e =
+    member-below (d .view) from
+    (and-eq-true-iff (eqb try (d .tries)) (member (d .view) from) .0
+    (and-eq-true-iff (not (isIdle (d .phase))) (eqb try (d .tries) && member (d .view) from) .0 e .1) .1)
+
+-- the kinds 1 to 8 are no replies
+record Quiet (n : ℕ) (d : Desk) (from : ℕ) (x : rules.Body) : Type 0 where
+  does : deskHears n d from x ≡ rules.quietly d
+
+module _ (n : ℕ) (d : Desk) (from : ℕ) (b : Body) (e : leb 1 (b .kind) && leb (b .kind) 8 ≡ true) where
+  from-kind :
+      (k : ℕ) {x y : rules.Body} → k ≤ b .kind
+      → Quiet n d from x → (k + 1 ≤ b .kind → Quiet n d from y)
+      → Quiet n d from (if eqb (b .kind) k then x else y)
+  from-kind k h p q = cases (Quiet n d from) (eqb (b .kind) k) (λ f. p) (λ f. q (omega (arith, eqb-false (b .kind) k f)))
+
+  pub no-reply : deskHears n d from (bodyOf b) ≡ rules.quietly d
+  unfolding bodyOf bodyIn deskHears
+  no-reply =
+      let h = and-eq-true-iff (leb 1 (b .kind)) (leb (b .kind) 8) .0 e in
+      (from-kind 1 (leb-true 1 (b .kind) (h .0)) (record { does = refl }) (λ h2.
+      from-kind 2 h2 (record { does = refl }) (λ h3.
+      from-kind 3 h3 (record { does = refl }) (λ h4.
+      from-kind 4 h4 (record { does = refl }) (λ h5.
+      from-kind 5 h5 (record { does = refl }) (λ h6.
+      from-kind 6 h6 (record { does = refl }) (λ h7.
+      from-kind 7 h7 (record { does = refl }) (λ h8.
+      from-kind 8 h8 (record { does = refl }) (λ h9.
+      absurd (omega (arith, leb-true (b .kind) 8 (h .1))))))))))) .does)
+
+-- any number but 1 to 10 says an acknowledgement
+module _ (b : Body) (e : leb 1 (b .kind) && leb (b .kind) 8 ≡ false) where
+  no-kind : (k : ℕ) → leb 1 k && leb k 8 ≡ true → eqb (b .kind) k ≡ false
+  no-kind k t = ne-eqb (b .kind) k (λ q. contrary (rw q t) e)
+
+  pub says-ack : (b .kind ≡ 9 → ⊥) → (b .kind ≡ 10 → ⊥) → bodyOf b ≡ rules.ack (b .tries)
+  unfolding bodyOf bodyIn
+  says-ack h9 h10 =
+      rw (no-kind 1 refl, no-kind 2 refl, no-kind 3 refl, no-kind 4 refl, no-kind 5 refl, no-kind 6 refl, no-kind 7 refl, no-kind 8 refl)
+      (rw (ne-eqb (b .kind) 9 h9, ne-eqb (b .kind) 10 h10))

@@ -1,0 +1,318 @@
+// Document 01, "Delivery at a desk", and READ and WRITE: what a desk answers to each thing that is put to it.
+use rules::Desk;
+use rules::Phase;
+use stamps::Pair;
+use stamps::Stamp;
+use state::Body;
+use state::DeskPlan;
+use state::Event;
+ghost use mathlib.Core.Path.{_≡_};
+ghost use mathlib.Core.List.{[]};
+ghost use Prim.Native.Nat.{_<_};
+ghost use Rattle.rules.specs.Sets.{if_then_else_};
+ghost use Rattle.rules.specs.Messages.{Refusal, number, not-now, refused, does, quietly};
+ghost use Rattle.rules.specs.State.{noDesk};
+ghost use Rattle.rules.specs.Desks as rule;
+ghost use Rattle.state.specs.Meaning.{bodyOf, eventOf};
+ghost use Rattle.state.specs.Plans.{planned, deskPlanOf};
+
+const NOT_NOW: u8 = 5;
+
+const WORN: u8 = 7;
+
+// A refusal "changes nothing": all but its number is blank.
+fn refuses(answer: u8) -> DeskPlan
+    ensures { λ r. ⌜ ((x : Refusal) → answer ≡ number x → deskPlanOf r ≡ planned noDesk (refused x)) ⌝ }
+{
+    let none = stamps::fresh();
+    let desk = Desk {
+        alive: false,
+        view: 0,
+        phase: Phase::Idle,
+        tries: 0,
+        holds: none,
+        replied: 0,
+        best: none,
+        agreed: false,
+    };
+    DeskPlan {
+        answer: answer,
+        desk: desk,
+        first: messages::no_sending(),
+        event: Event::Nothing,
+    }
+}
+
+fn tells(d: Desk, event: Event) -> DeskPlan
+    ensures { λ r. ⌜ deskPlanOf r ≡ planned noDesk (does d [] (eventOf event)) ⌝ }
+{
+    DeskPlan {
+        answer: 0,
+        desk: d,
+        first: messages::no_sending(),
+        event: event,
+    }
+}
+
+fn does_nothing(d: Desk) -> DeskPlan
+    ensures { λ r. ⌜ deskPlanOf r ≡ planned noDesk (quietly d) ⌝ }
+{
+    tells(d, Event::Nothing)
+}
+
+fn is_idle(phase: Phase) -> bool
+    ensures { λ r. ⌜ r ≡ rule.isIdle phase ⌝ }
+{
+    match phase {
+        Phase::Idle => true,
+        Phase::Read1 => false,
+        Phase::Read2 => false,
+        Phase::Write1 => false,
+        Phase::Write2 => false,
+    }
+}
+
+fn is_first(phase: Phase) -> bool
+    ensures { λ r. ⌜ r ≡ rule.isFirst phase ⌝ }
+{
+    match phase {
+        Phase::Idle => false,
+        Phase::Read1 => true,
+        Phase::Read2 => false,
+        Phase::Write1 => true,
+        Phase::Write2 => false,
+    }
+}
+
+fn is_second(phase: Phase) -> bool
+    ensures { λ r. ⌜ r ≡ rule.isSecond phase ⌝ }
+{
+    match phase {
+        Phase::Idle => false,
+        Phase::Read1 => false,
+        Phase::Read2 => true,
+        Phase::Write1 => false,
+        Phase::Write2 => true,
+    }
+}
+
+fn cleared(d: Desk, phase: Phase, v: u16, p: Pair, tries: u16) -> Desk
+    ensures { λ r. ⌜ r ≡ rule.cleared d phase v p tries ⌝ }
+{
+    Desk {
+        alive: d.alive,
+        view: v,
+        phase: phase,
+        tries: tries,
+        holds: p,
+        replied: 0,
+        best: stamps::fresh(),
+        agreed: false,
+    }
+}
+
+fn asks(phase: Phase, tries: u16, v: u16, p: Pair) -> Body
+    ensures { λ r. ⌜ bodyOf r ≡ rule.asks phase tries v p ⌝ }
+{
+    if is_first(phase) {
+        return messages::get(tries, v);
+    }
+    messages::put(tries, v, p)
+}
+
+// "Each phase begins by adding 1 to the try, clearing the replies and sending to all members of the desk's view"
+fn begins(d: Desk, phase: Phase, v: u16, p: Pair) -> DeskPlan
+    ensures { λ r. ⌜ deskPlanOf r ≡ planned noDesk (rule.begins d phase v p) ⌝ }
+{
+    if 65535 <= d.tries {
+        return refuses(WORN);
+    }
+    let tries = d.tries + 1;
+    let body = asks(phase, tries, v, p);
+    DeskPlan {
+        answer: 0,
+        desk: cleared(d, phase, v, p, tries),
+        first: messages::to_members(v, body),
+        event: Event::Nothing,
+    }
+}
+
+// "READ and WRITE are NOT NOW unless the desk is idle."
+fn asked(d: Desk, phase: Phase, p: Pair) -> DeskPlan
+    ensures { λ r. ⌜ deskPlanOf r ≡ planned noDesk (if rule.isIdle (d .phase) then rule.begins d phase (d .view) p else refused not-now) ⌝ }
+{
+    let now = d.phase;
+    if !is_idle(now) {
+        return refuses(NOT_NOW);
+    }
+    begins(d, phase, d.view, p)
+}
+
+pub fn read_asked(d: Desk) -> DeskPlan
+    ensures { λ r. ⌜ deskPlanOf r ≡ planned noDesk (rule.readAsked d) ⌝ }
+{
+    asked(d, Phase::Read1, stamps::fresh())
+}
+
+pub fn write_asked(d: Desk, x: u32) -> DeskPlan
+    ensures { λ r. ⌜ deskPlanOf r ≡ planned noDesk (rule.writeAsked d x) ⌝ }
+{
+    let mut p = stamps::fresh();
+    p.value = x;
+    asked(d, Phase::Write1, p)
+}
+
+// A reply that may count: to a desk that is not idle, of its try, from a member of its view.
+fn current(d: Desk, from: u8, tries: u16) -> bool
+    ensures { λ r. ⌜ r ≡ rule.current d from tries ⌝ }
+{
+    let phase = d.phase;
+    if is_idle(phase) {
+        return false;
+    }
+    if tries != d.tries {
+        return false;
+    }
+    views::is_member(d.view, from)
+}
+
+// "A view reply that strictly includes the desk's view is adopted and the phase starts again; any other does nothing."
+fn view_came(d: Desk, from: u8, tries: u16, v: u16) -> DeskPlan
+    ensures { λ r. ⌜ deskPlanOf r ≡ planned noDesk (rule.viewCame d from tries v) ⌝ }
+{
+    if !current(d, from, tries) {
+        return does_nothing(d);
+    }
+    if !views::inside(d.view, v) {
+        return does_nothing(d);
+    }
+    let phase = d.phase;
+    let holds = d.holds;
+    begins(d, phase, v, holds)
+}
+
+// "an acknowledgement sets only who replied."
+fn notes_ack(d: Desk, from: u8) -> Desk
+    requires { ⌜ from < 8 ⌝ }
+    ensures { λ r. ⌜ r ≡ rule.notesAck d from ⌝ }
+{
+    let mut next = d;
+    next.replied = d.replied | (1u8 << from);
+    next
+}
+
+// One comparison tells whether the reply is the best, and whether it agrees with those before.
+fn notes_pair(d: Desk, from: u8, p: Pair) -> Desk
+    requires { ⌜ from < 8 ⌝ }
+    ensures { λ r. ⌜ r ≡ rule.notesPair d from p ⌝ }
+{
+    let held = d.best;
+    let order = stamps::compare(p.stamp, held.stamp);
+    let mut next = notes_ack(d, from);
+    next.agreed = (d.replied == 0) | (d.agreed & (order == 0));
+    if order == 1 {
+        next.best = p;
+    }
+    next
+}
+
+// "Idle, only alive, view and try stay."
+fn ends(d: Desk, event: Event) -> DeskPlan
+    ensures { λ r. ⌜ deskPlanOf r ≡ planned noDesk (does (rule.ended d) [] (eventOf event)) ⌝ }
+{
+    let idle = cleared(d, Phase::Idle, d.view, stamps::fresh(), d.tries);
+    tells(idle, event)
+}
+
+// "write 1 takes (greatest count + 1, own number) and starts write 2"
+fn takes_stamp(n: u8, d: Desk) -> DeskPlan
+    ensures { λ r. ⌜ deskPlanOf r ≡ planned noDesk (rule.stamps n d) ⌝ }
+{
+    let count = d.best.stamp.count;
+    if 65535 <= count {
+        return refuses(WORN);
+    }
+    let stamp = Stamp {
+        count: count + 1,
+        desk: n,
+    };
+    let p = Pair {
+        stamp: stamp,
+        value: d.holds.value,
+    };
+    begins(d, Phase::Write2, d.view, p)
+}
+
+fn completes(n: u8, d: Desk) -> DeskPlan
+    ensures { λ r. ⌜ deskPlanOf r ≡ planned noDesk (rule.completes n d (d .phase)) ⌝ }
+{
+    let phase = d.phase;
+    let holds = d.holds;
+    let best = d.best;
+    match phase {
+        Phase::Idle => does_nothing(d),
+        Phase::Read1 => {
+            if d.agreed {
+                return ends(d, Event::ReadDone(best));
+            }
+            begins(d, Phase::Read2, d.view, best)
+        }
+        Phase::Read2 => ends(d, Event::ReadDone(holds)),
+        Phase::Write1 => takes_stamp(n, d),
+        Phase::Write2 => ends(d, Event::WriteDone(holds)),
+    }
+}
+
+// "At a quorum of replies"
+fn counted(n: u8, d: Desk) -> DeskPlan
+    ensures { λ r. ⌜ deskPlanOf r ≡ planned noDesk (rule.counted n d) ⌝ }
+{
+    if !views::reaches(d.view, d.replied) {
+        return does_nothing(d);
+    }
+    completes(n, d)
+}
+
+fn pair_came(n: u8, d: Desk, from: u8, tries: u16, p: Pair) -> DeskPlan
+    ensures { λ r. ⌜ deskPlanOf r ≡ planned noDesk (rule.pairCame n d from tries p) ⌝ }
+{
+    if !current(d, from, tries) {
+        return does_nothing(d);
+    }
+    let phase = d.phase;
+    if !is_first(phase) {
+        return does_nothing(d);
+    }
+    counted(n, notes_pair(d, from, p))
+}
+
+fn ack_came(n: u8, d: Desk, from: u8, tries: u16) -> DeskPlan
+    ensures { λ r. ⌜ deskPlanOf r ≡ planned noDesk (rule.ackCame n d from tries) ⌝ }
+{
+    if !current(d, from, tries) {
+        return does_nothing(d);
+    }
+    let phase = d.phase;
+    if !is_second(phase) {
+        return does_nothing(d);
+    }
+    counted(n, notes_ack(d, from))
+}
+
+// What comes to the desk n. The kinds 1 to 8 are no replies; a number that is no kind says what 11 says.
+pub fn hears(n: u8, d: Desk, from: u8, b: Body) -> DeskPlan
+    ensures { λ r. ⌜ deskPlanOf r ≡ planned noDesk (rule.deskHears n d from (bodyOf b)) ⌝ }
+{
+    let kind = b.kind;
+    if kind == 9 {
+        return view_came(d, from, b.tries, b.first);
+    }
+    if kind == 10 {
+        let p = b.pair;
+        return pair_came(n, d, from, b.tries, p);
+    }
+    if (1 <= kind) & (kind <= 8) {
+        return does_nothing(d);
+    }
+    ack_came(n, d, from, b.tries)
+}

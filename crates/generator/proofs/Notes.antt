@@ -1,0 +1,70 @@
+-- Laws of the notes: one is made, none is there for a sender above 7, and the set of those that agree is built from the highest. Assumes nothing.
+use mathlib.Core.Path.{_≡_, refl, ap, _∙_}
+use mathlib.Core.Bool.{Bool, true, false}
+use mathlib.Core.List.{List, [], _∷_, map}
+use Prim.Native.Nat.{ℕ, zero, suc, _+_, _-_, _*_, _^_, _≤_, _<_}
+use native.Mathlib.Nat.{pow-suc, lt-of-lt-of-le}
+use native.Mathlib.Omega.{arith}
+use lib.ListN.{length, getD, set, drop, length-drop, length-map, List·getD-map, drop-of-length-le}
+use lib.Pow.{pow-mono}
+use lib.Seq.{drop-cons}
+use mir.Val.{boolByte}
+use Rattle.views.specs.declared.Sequence.{Sequence}
+use Rattle.views.specs.Row.{viewsOf}
+use Rattle.rules.specs.Sets.{same, none}
+use Rattle.rules.specs.Generators.{noted, oneIf}
+
+-- ---- a note is made
+
+pub set-map : {A B : Type 0} (f : A → B) (l : List A) (i : ℕ) (x : A) → map f (set l i x) ≡ set (map f l) i (f x)
+set-map f [] i x = refl
+set-map f (y ∷ l) zero x = refl
+set-map {B = B} f (y ∷ l) (suc i) x = ap (λ (m : List B). f y ∷ m) (set-map f l i x)
+
+pub set-past : {A : Type 0} (l : List A) (i : ℕ) (x : A) → length l ≤ i → l ≡ set l i x
+set-past [] i x h = refl
+set-past (y ∷ l) zero x h = absurd (omega arith)
+set-past {A} (y ∷ l) (suc i) x h = ap (λ (m : List A). y ∷ m) (set-past l i x (omega arith))
+
+-- ---- who agrees
+
+byte-is : (b : Bool) → boolByte b ≡ oneIf b
+byte-is true = refl
+byte-is false = refl
+
+pub byte-le : (b : Bool) → boolByte b ≤ 1
+byte-le true = omega arith
+byte-le false = omega arith
+
+noted-lt : (ls : List (List ℕ)) (q : List ℕ) → noted ls q < 2 ^ length ls
+unfolding noted
+noted-lt [] q = omega arith
+noted-lt (l ∷ ls) q = omega (arith, noted-lt ls q, byte-is (same l q), byte-le (same l q), pow-suc 2 (length ls))
+
+module _ (ns : List Sequence) (q : List ℕ) (full : length ns ≡ 8) where
+  pub noted-start : 0 ≡ noted (drop 8 (map viewsOf ns)) q
+  unfolding noted
+  noted-start = rw (drop-of-length-le (map viewsOf ns) {i = 8} (simp length-map (omega arith)))
+
+  pub noted-small : (i : ℕ) → 0 < i → noted (drop i (map viewsOf ns)) q < 128
+  noted-small i pos = lt-of-lt-of-le (noted-lt (drop i (map viewsOf ns)) q) (pow-mono {j = 7} (simp (length-drop, length-map) (omega arith)))
+
+  pub noted-step : (i : ℕ) (d : Sequence) (b : Bool) → 0 < i → i ≤ 8 → b ≡ same (viewsOf (getD ns (i - 1) d)) q
+      → noted (drop i (map viewsOf ns)) q * 2 + boolByte b ≡ noted (drop (i - 1) (map viewsOf ns)) q
+  unfolding noted
+  noted-step i d b pos h e =
+      let j : ℕ = i - 1 in
+      let ij : i ≡ suc j = omega arith in
+      let l : j < length (map viewsOf ns) = simp length-map (omega arith) in
+      ap (λ (k : ℕ). noted (drop k (map viewsOf ns)) q * 2 + boolByte b) ij
+      ∙ rw (drop-cons (map viewsOf ns) j (viewsOf d) l, List·getD-map viewsOf ns j d, ← e, byte-is b)
+
+-- ---- an empty sequence
+
+pub none-test : (l : List ℕ) → length l ≡ 0 → none l ≡ true
+none-test [] e = refl
+none-test (x ∷ l) e = absurd (omega arith)
+
+pub some-test : (l : List ℕ) → 0 < length l → none l ≡ false
+some-test [] h = absurd (omega arith)
+some-test (x ∷ l) h = refl

@@ -1,0 +1,39 @@
+-- `generator::proposal_heard` meets its contract. Assumes nothing.
+use mathlib.Core.Path.{_≡_, sym, ap, _∙_}
+use mathlib.Core.Bool.{true, false}
+use borrow.Author.Tests.{not-true, not-false}
+use Rattle.views.specs.Row.{viewsOf}
+use Rattle.rules.specs.Sets.{lacks}
+use Rattle.rules.specs.Messages.{proposal, toMembers}
+use Rattle.rules.specs.State.{Generator}
+use Rattle.rules.specs.Generators.{settles}
+use Rattle.state.specs.Meaning.{generatorOf, sendingOf}
+use Rattle.state.specs.Plans.{turnOf, turned}
+use Rattle.generator.specs.Heard.{mergedInRow, hearsInRow, heardInRow}
+use Rattle.generator.proofs.proposal_heard.Statement.{statement}
+use Rattle.generator.proofs.proposal_heard.Tie as tie
+
+returns : tie.Need-returns
+unfolding heardInRow hearsInRow turned generatorOf
+returns c =
+    let t = c .before in
+    let a = t .before .before .before .before .args in
+    let e : lacks (viewsOf (a .q)) (viewsOf (a .g .own)) ≡ false = sym (t .lacks .ensures) ∙ not-true _ (c .if1 .taken) in
+    t .before .settles .ensures ∙ rw (t .before .before .merged .ensures, e)
+
+returns-2 : tie.Need-returns-2
+unfolding heardInRow hearsInRow turnOf turned generatorOf
+returns-2 c =
+    let t = c .before .before .before .before .before .before in
+    let m = t .before .before in
+    let a = m .before .before .args in
+    let e : lacks (viewsOf (a .q)) (viewsOf (a .g .own)) ≡ true = sym (t .lacks .ensures) ∙ not-false _ (c .before .before .before .before .before .if1 .left) in
+    let h : Generator = mergedInRow (generatorOf (a .g)) (a .from) (viewsOf (a .q)) in
+    let rest : turnOf (t .before .settles .result) ≡ turned (settles h) = t .before .settles .ensures ∙ rw (m .merged .ensures) in
+    let sent : sendingOf (c .to-members .result) ≡ toMembers (a .g .view) (proposal (a .g .view) (h .own)) =
+    c .to-members .ensures
+    ∙ rw (c .before .proposal .ensures) (ap (λ (k : Generator). toMembers (a .g .view) (proposal (a .g .view) (k .own))) (m .merged .ensures)) in
+    rw e (λ i. record { next = rest i .next; first = sent i; second = rest i .first })
+
+pub proposal-heard-spec : {M : Type 1} → statement M
+proposal-heard-spec = tie.close (tie.spec (λ c κs. tt) (λ c κs. tt) (λ c κs. tt) returns (λ c κs. tt) (λ c κs. tt) returns-2)

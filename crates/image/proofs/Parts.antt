@@ -1,0 +1,97 @@
+-- What the parts that the code reads and writes are of a relay and of a place. Assumes nothing.
+use mathlib.Core.Path.{_≡_, refl, sym, ap, _∙_}
+use mathlib.Core.List.{List, []}
+use Prim.Native.Nat.{ℕ, _+_, _*_, _≤_}
+use lib.Dec.{leb}
+use borrow.Author.Tests.{le-leb}
+use Rattle.rows.specs.Bytes.{tab}
+use Rattle.rules.specs.Sets.{if_then_else_, _&&_, those}
+use Rattle.rules.specs.State.{Generator, Transfer, free, waiting}
+use Rattle.rules.specs.Messages as rules
+use Rattle.rules.specs.Messages.{request, view, proposal, converged, install, state, get, put, viewReply, pairReply, ack}
+use Rattle.rules.specs.Image.{Row, row, bodyRow, placeRow, bodyIn, placeIn, rowBytes, placeBytes, headBytes, relayAt, generatorAt, transferAt, filledGenerator, filledTransfer}
+use Rattle.state.specs.declared.Head.{Head}
+use Rattle.state.specs.declared.Body.{Body}
+use Rattle.state.specs.declared.Message.{Message}
+use Rattle.state.specs.Meaning.{relayOf, bodyOf, messageOf}
+use Rattle.image.specs.Parts.{headAt, addressedRow, messageRow, Plain}
+
+-- ---- a relay is its head with its two tables
+
+pub relay-parts : (l : List ℕ) (i : ℕ)
+    → relayAt l i
+    ≡ relayOf (headAt l i) (those filledGenerator (tab 8 (λ k. generatorAt l (i + 64 + k * 592)))) (those filledTransfer (tab 8 (λ k. transferAt l (i + 4800 + k * 80))))
+unfolding relayAt relayOf headAt
+relay-parts l i = refl
+
+-- a head's bytes are the same whatever the tables hold
+pub head-alone : (h : Head) (gs : List Generator) (ts : List Transfer) → headBytes (relayOf h gs ts) ≡ headBytes (relayOf h [] [])
+unfolding headBytes relayOf
+head-alone h gs ts = refl
+
+-- ---- a place is what its row says
+
+module _ (m : Message) where
+  pub place-is : placeIn (messageRow m) ≡ (if leb 1 (m .body .kind) && leb (m .body .kind) 11 then waiting (messageOf m) else free)
+  unfolding placeIn bodyIn messageRow addressedRow messageOf bodyOf
+  place-is = refl
+
+  pub place-of : 1 ≤ m .body .kind → m .body .kind ≤ 11 → placeIn (messageRow m) ≡ waiting (messageOf m)
+  place-of low high = place-is ∙ rw (le-leb 1 (m .body .kind) low, le-leb (m .body .kind) 11 high)
+
+-- ---- a plain body's row is the row of what it says
+
+addressed : ℕ → ℕ → Row → Row
+addressed s r m = row (m .kind) s r (m .first) (m .second) (m .tries) (m .sequence) (m .pair) (m .updates)
+
+body-addressed : (s r : ℕ) (x : rules.Body) → bodyRow s r x ≡ addressed s r (bodyRow 0 0 x)
+unfolding addressed
+body-addressed s r (request u c) = refl
+body-addressed s r (view v) = refl
+body-addressed s r (proposal v q) = refl
+body-addressed s r (converged v q) = refl
+body-addressed s r (install o w q) = refl
+body-addressed s r (state o w p u) = refl
+body-addressed s r (get try c) = refl
+body-addressed s r (put try c p) = refl
+body-addressed s r (viewReply try v) = refl
+body-addressed s r (pairReply try p) = refl
+body-addressed s r (ack try) = refl
+
+-- what a body's row says is the body
+body-back : (x : rules.Body) → bodyIn (bodyRow 0 0 x) ≡ x
+unfolding bodyIn
+body-back (request u c) = refl
+body-back (view v) = refl
+body-back (proposal v q) = refl
+body-back (converged v q) = refl
+body-back (install o w q) = refl
+body-back (state o w p u) = refl
+body-back (get try c) = refl
+body-back (put try c p) = refl
+body-back (viewReply try v) = refl
+body-back (pairReply try p) = refl
+body-back (ack try) = refl
+
+module _ (b : Body) (x : rules.Body) (e : addressedRow 0 0 b ≡ bodyRow 0 0 x) where
+  -- so of a body that is made for x it is enough to say its row
+  pub made-means : bodyOf b ≡ x
+  unfolding bodyOf addressedRow
+  made-means = ap bodyIn e ∙ body-back x
+
+  pub made-plain : Plain b
+  made-plain = record { is = e ∙ ap (bodyRow 0 0) (sym made-means) }
+
+module _ (m : Message) (p : Plain (m .body)) where
+  pub plain-row : messageRow m ≡ placeRow (waiting (messageOf m))
+  unfolding messageRow addressedRow messageOf addressed
+  plain-row = ap (addressed (m .from) (m .to)) (p .is) ∙ sym (body-addressed (m .from) (m .to) (bodyOf (m .body)))
+
+  pub plain-bytes : rowBytes (messageRow m) ≡ placeBytes (waiting (messageOf m))
+  unfolding placeBytes
+  plain-bytes = ap rowBytes plain-row
+
+-- a row that is the row of a message is written as its place
+pub written-as : (m : Message) (x : rules.Message) → messageRow m ≡ bodyRow (x .from) (x .to) (x .body) → rowBytes (messageRow m) ≡ placeBytes (waiting x)
+unfolding placeBytes
+written-as m x e = ap rowBytes e

@@ -1,0 +1,19 @@
+-- How many bytes each row has, whatever it holds: the widths of the image (rules), and of the parts that the code writes at once. Assumes nothing.
+use mathlib.Core.Path.{_≡_}
+use mathlib.Core.List.{List, []}
+use Prim.Native.Nat.{ℕ}
+use lib.ListN.{length, getD}
+use Rattle.rows.specs.Bytes.{be16, run}
+use Rattle.rows.proofs.Laws.{length-run}
+use Rattle.rows.proofs.Numbers.{length-be16}
+use Rattle.rows.proofs.Tables.{table-length}
+use Rattle.rules.specs.Image.{sequenceBytes}
+use Rattle.image.specs.Parts.{notesBytes}
+pub use Rattle.rules.proofs.ImageWidths.{length-sequence, length-pair, length-head, length-generator, length-transfer, length-desk, length-row}
+
+pub length-views : (q : List ℕ) → length (run 15 (λ k. be16 (getD q k 0))) ≡ 30
+length-views q = length-run 2 15 (λ k. be16 (getD q k 0)) (λ k. length-be16 (getD q k 0))
+
+pub length-notes : (qs : List (List ℕ)) → length (notesBytes qs) ≡ 248
+unfolding notesBytes
+length-notes qs = table-length sequenceBytes [] 31 8 length-sequence qs

@@ -1,0 +1,42 @@
+-- What the code reads and writes at once and Image has no name for: eight notes, a relay without its tables, a message as the code holds it.
+-- Assumes nothing.
+use mathlib.Core.Path.{_≡_}
+use mathlib.Core.List.{List, []}
+use Prim.Native.Nat.{ℕ, _+_, _*_}
+use Rattle.rows.specs.Bytes.{u16At, tab, table}
+use Rattle.views.specs.Row.{viewsOf}
+use Rattle.rules.specs.Image.{Row, row, bodyRow, flagAt, sequenceBytes, sequenceAt, pairAt}
+use Rattle.state.specs.declared.Head.{Head}
+use Rattle.state.specs.declared.Body.{Body}
+use Rattle.state.specs.declared.Message.{Message}
+use Rattle.state.specs.Meaning.{bodyOf}
+
+unfoldable pub notesBytes : List (List ℕ) → List ℕ
+notesBytes qs = table sequenceBytes [] 8 qs
+
+unfoldable pub notesAt : List ℕ → ℕ → List (List ℕ)
+notesAt b i = tab 8 (λ k. sequenceAt b (i + k * 31))
+
+-- what `relayAt` reads before the tables
+unfoldable pub headAt : List ℕ → ℕ → Head
+headAt b i =
+    record {
+      alive = flagAt b i;
+      entered = flagAt b (i + 1);
+      active = flagAt b (i + 2);
+      view = u16At b (i + 3);
+      known = u16At b (i + 5);
+      pending = u16At b (i + 7);
+      holds = pairAt b (i + 9);
+    }
+
+-- a body from one to another, field by field
+unfoldable pub addressedRow : ℕ → ℕ → Body → Row
+addressedRow s r b = row (b .kind) s r (b .first) (b .second) (b .tries) (viewsOf (b .sequence)) (b .pair) (b .updates)
+
+unfoldable pub messageRow : Message → Row
+messageRow m = addressedRow (m .from) (m .to) (m .body)
+
+-- "unused room is zero": a body says what its kind says, and every other field is zero
+pub record Plain (b : Body) : Type 0 where
+  pub is : addressedRow 0 0 b ≡ bodyRow 0 0 (bodyOf b)

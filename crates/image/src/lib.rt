@@ -1,0 +1,349 @@
+// The world's parts in the rows of a lent buffer: each read, and each written over its row. Document 01, "The world"; the layout is rules' Image. Every
+// function is total: past the end a buffer reads zero, and a row that does not fit wholly is not written.
+ghost use mathlib.Core.Path.{_≡_};
+ghost use mathlib.Core.List.{[]};
+ghost use Prim.Native.Nat.{min};
+ghost use Rattle.rows.specs.Bytes.{placed};
+ghost use Rattle.views.specs.Row.{viewsOf};
+ghost use Rattle.rules.specs.Image.{flag, sequenceBytes, sequenceAt, pairBytes, pairAt, headBytes, generatorBytes, generatorAt};
+ghost use Rattle.rules.specs.Image.{transferBytes, transferAt, phaseNumber, phaseOf, deskBytes, deskAt, rowBytes, rowAt};
+ghost use Rattle.state.specs.Meaning.{notesOf, generatorOf, transferOf, relayOf};
+ghost use Rattle.image.specs.Parts.{notesBytes, notesAt, headAt, messageRow};
+use rules::Desk;
+use rules::Phase;
+use stamps::Pair;
+use stamps::Stamp;
+use state::Body;
+use state::Generator;
+use state::Head;
+use state::Message;
+use state::Notes;
+use state::Transfer;
+use views::Sequence;
+
+// Past the end everything reads zero, so a row there reads as one that begins at the end; what is added to an index then stays in range.
+fn inside(len: usize, at: usize) -> usize
+    ensures { λ r. ⌜ r ≡ min at len ⌝ }
+{
+    if len < at {
+        return len;
+    }
+    at
+}
+
+fn put_flag(s: &mut [u8], at: usize, b: bool)
+    ensures { λ _. ⌜ now (s .exit) ≡ placed (now (s .entry)) at (flag b) ⌝ }
+{
+    rows::put_byte(s, at, b as u8);
+}
+
+pub fn sequence_at(s: &[u8], at: usize) -> Sequence
+    ensures { λ r. ⌜ viewsOf r ≡ sequenceAt (now (s .entry)) at ⌝ }
+{
+    let a = inside(s.len(), at);
+    let mut views = [0u16; 15];
+    for i in 0..15usize {
+        views[i] = rows::read_u16(s, a + 2 * i);
+    }
+    let len = rows::byte_at(s, a + 30) as usize;
+    Sequence { views, len }
+}
+
+pub fn put_sequence(s: &mut [u8], at: usize, q: Sequence)
+    ensures { λ _. ⌜ now (s .exit) ≡ placed (now (s .entry)) at (sequenceBytes (viewsOf q)) ⌝ }
+{
+    if !rows::has_room(s.len(), at, 31) {
+        return;
+    }
+    for i in 0..15usize {
+        let v = views::view_at(q, i);
+        rows::put_u16(s, at + 2 * i, v);
+    }
+    let n = views::count(q);
+    rows::put_byte(s, at + 30, n as u8);
+}
+
+pub fn pair_at(s: &[u8], at: usize) -> Pair
+    ensures { λ r. ⌜ r ≡ pairAt (now (s .entry)) at ⌝ }
+{
+    let a = inside(s.len(), at);
+    let count = rows::read_u16(s, a);
+    let desk = rows::byte_at(s, a + 2);
+    let value = rows::read_u32(s, a + 3);
+    Pair {
+        stamp: Stamp { count, desk },
+        value,
+    }
+}
+
+pub fn put_pair(s: &mut [u8], at: usize, p: Pair)
+    ensures { λ _. ⌜ now (s .exit) ≡ placed (now (s .entry)) at (pairBytes p) ⌝ }
+{
+    if !rows::has_room(s.len(), at, 7) {
+        return;
+    }
+    rows::put_u16(s, at, p.stamp.count);
+    rows::put_byte(s, at + 2, p.stamp.desk);
+    rows::put_u32(s, at + 3, p.value);
+}
+
+pub fn head_at(s: &[u8], at: usize) -> Head
+    ensures { λ r. ⌜ r ≡ headAt (now (s .entry)) at ⌝ }
+{
+    let a = inside(s.len(), at);
+    let alive = rows::byte_at(s, a) == 1;
+    let entered = rows::byte_at(s, a + 1) == 1;
+    let active = rows::byte_at(s, a + 2) == 1;
+    let view = rows::read_u16(s, a + 3);
+    let known = rows::read_u16(s, a + 5);
+    let pending = rows::read_u16(s, a + 7);
+    let holds = pair_at(s, a + 9);
+    Head {
+        alive,
+        entered,
+        active,
+        view,
+        known,
+        pending,
+        holds,
+    }
+}
+
+pub fn put_head(s: &mut [u8], at: usize, h: Head)
+    ensures { λ _. ⌜ now (s .exit) ≡ placed (now (s .entry)) at (headBytes (relayOf h [] [])) ⌝ }
+{
+    if !rows::has_room(s.len(), at, 64) {
+        return;
+    }
+    let holds = h.holds;
+    put_flag(s, at, h.alive);
+    put_flag(s, at + 1, h.entered);
+    put_flag(s, at + 2, h.active);
+    rows::put_u16(s, at + 3, h.view);
+    rows::put_u16(s, at + 5, h.known);
+    rows::put_u16(s, at + 7, h.pending);
+    put_pair(s, at + 9, holds);
+    rows::clear(s, at + 16, 48);
+}
+
+pub fn notes_at(s: &[u8], at: usize) -> Notes
+    ensures { λ r. ⌜ notesOf r ≡ notesAt (now (s .entry)) at ⌝ }
+{
+    let a = inside(s.len(), at);
+    let mut of = [views::empty(); 8];
+    for i in 0..8usize {
+        of[i] = sequence_at(s, a + i * 31);
+    }
+    Notes { of }
+}
+
+pub fn put_notes(s: &mut [u8], at: usize, n: Notes)
+    ensures { λ _. ⌜ now (s .exit) ≡ placed (now (s .entry)) at (notesBytes (notesOf n)) ⌝ }
+{
+    if !rows::has_room(s.len(), at, 248) {
+        return;
+    }
+    let of = n.of;
+    for i in 0..8usize {
+        let q = of[i];
+        put_sequence(s, at + i * 31, q);
+    }
+}
+
+pub fn generator_at(s: &[u8], at: usize) -> Generator
+    ensures { λ r. ⌜ generatorOf r ≡ generatorAt (now (s .entry)) at ⌝ }
+{
+    let a = inside(s.len(), at);
+    let view = rows::read_u16(s, a);
+    let own = sequence_at(s, a + 2);
+    let converged = sequence_at(s, a + 33);
+    let raised = sequence_at(s, a + 64);
+    let proposals = notes_at(s, a + 95);
+    let convergences = notes_at(s, a + 343);
+    Generator {
+        view,
+        own,
+        converged,
+        raised,
+        proposals,
+        convergences,
+    }
+}
+
+pub fn put_generator(s: &mut [u8], at: usize, g: Generator)
+    ensures { λ _. ⌜ now (s .exit) ≡ placed (now (s .entry)) at (generatorBytes (generatorOf g)) ⌝ }
+{
+    if !rows::has_room(s.len(), at, 592) {
+        return;
+    }
+    let own = g.own;
+    let converged = g.converged;
+    let raised = g.raised;
+    let proposals = g.proposals;
+    let convergences = g.convergences;
+    rows::put_u16(s, at, g.view);
+    put_sequence(s, at + 2, own);
+    put_sequence(s, at + 33, converged);
+    put_sequence(s, at + 64, raised);
+    put_notes(s, at + 95, proposals);
+    put_notes(s, at + 343, convergences);
+    rows::clear(s, at + 591, 1);
+}
+
+pub fn transfer_at(s: &[u8], at: usize) -> Transfer
+    ensures { λ r. ⌜ transferOf r ≡ transferAt (now (s .entry)) at ⌝ }
+{
+    let a = inside(s.len(), at);
+    let old = rows::read_u16(s, a);
+    let new = rows::read_u16(s, a + 2);
+    let sequence = sequence_at(s, a + 4);
+    let senders = rows::byte_at(s, a + 35);
+    let best = pair_at(s, a + 36);
+    let gathered = rows::read_u16(s, a + 43);
+    Transfer {
+        old,
+        new,
+        sequence,
+        senders,
+        best,
+        gathered,
+    }
+}
+
+pub fn put_transfer(s: &mut [u8], at: usize, t: Transfer)
+    ensures { λ _. ⌜ now (s .exit) ≡ placed (now (s .entry)) at (transferBytes (transferOf t)) ⌝ }
+{
+    if !rows::has_room(s.len(), at, 80) {
+        return;
+    }
+    let sequence = t.sequence;
+    let best = t.best;
+    rows::put_u16(s, at, t.old);
+    rows::put_u16(s, at + 2, t.new);
+    put_sequence(s, at + 4, sequence);
+    rows::put_byte(s, at + 35, t.senders);
+    put_pair(s, at + 36, best);
+    rows::put_u16(s, at + 43, t.gathered);
+    rows::clear(s, at + 45, 35);
+}
+
+fn phase_number(p: Phase) -> u8
+    ensures { λ r. ⌜ r ≡ phaseNumber p ⌝ }
+{
+    match p {
+        Phase::Idle => 0,
+        Phase::Read1 => 1,
+        Phase::Read2 => 2,
+        Phase::Write1 => 3,
+        Phase::Write2 => 4,
+    }
+}
+
+fn phase_of(n: u8) -> Phase
+    ensures { λ r. ⌜ r ≡ phaseOf n ⌝ }
+{
+    if n == 1 {
+        return Phase::Read1;
+    }
+    if n == 2 {
+        return Phase::Read2;
+    }
+    if n == 3 {
+        return Phase::Write1;
+    }
+    if n == 4 {
+        return Phase::Write2;
+    }
+    Phase::Idle
+}
+
+pub fn desk_at(s: &[u8], at: usize) -> Desk
+    ensures { λ r. ⌜ r ≡ deskAt (now (s .entry)) at ⌝ }
+{
+    let a = inside(s.len(), at);
+    let alive = rows::byte_at(s, a) == 1;
+    let phase = phase_of(rows::byte_at(s, a + 1));
+    let view = rows::read_u16(s, a + 2);
+    let tries = rows::read_u16(s, a + 4);
+    let holds = pair_at(s, a + 6);
+    let replied = rows::byte_at(s, a + 13);
+    let best = pair_at(s, a + 14);
+    let agreed = rows::byte_at(s, a + 21) == 1;
+    Desk {
+        alive,
+        view,
+        phase,
+        tries,
+        holds,
+        replied,
+        best,
+        agreed,
+    }
+}
+
+pub fn put_desk(s: &mut [u8], at: usize, d: Desk)
+    ensures { λ _. ⌜ now (s .exit) ≡ placed (now (s .entry)) at (deskBytes d) ⌝ }
+{
+    if !rows::has_room(s.len(), at, 64) {
+        return;
+    }
+    let phase = d.phase;
+    let number = phase_number(phase);
+    let holds = d.holds;
+    let best = d.best;
+    put_flag(s, at, d.alive);
+    rows::put_byte(s, at + 1, number);
+    rows::put_u16(s, at + 2, d.view);
+    rows::put_u16(s, at + 4, d.tries);
+    put_pair(s, at + 6, holds);
+    rows::put_byte(s, at + 13, d.replied);
+    put_pair(s, at + 14, best);
+    put_flag(s, at + 21, d.agreed);
+    rows::clear(s, at + 22, 42);
+}
+
+pub fn message_at(s: &[u8], at: usize) -> Message
+    ensures { λ r. ⌜ messageRow r ≡ rowAt (now (s .entry)) at ⌝ }
+{
+    let a = inside(s.len(), at);
+    let kind = rows::byte_at(s, a);
+    let from = rows::byte_at(s, a + 1);
+    let to = rows::byte_at(s, a + 2);
+    let first = rows::read_u16(s, a + 3);
+    let second = rows::read_u16(s, a + 5);
+    let tries = rows::read_u16(s, a + 7);
+    let sequence = sequence_at(s, a + 9);
+    let pair = pair_at(s, a + 40);
+    let updates = rows::read_u16(s, a + 47);
+    let body = Body {
+        kind,
+        first,
+        second,
+        tries,
+        sequence,
+        pair,
+        updates,
+    };
+    Message { from, to, body }
+}
+
+pub fn put_message(s: &mut [u8], at: usize, m: Message)
+    ensures { λ _. ⌜ now (s .exit) ≡ placed (now (s .entry)) at (rowBytes (messageRow m)) ⌝ }
+{
+    if !rows::has_room(s.len(), at, 80) {
+        return;
+    }
+    let b = m.body;
+    let sequence = b.sequence;
+    let pair = b.pair;
+    rows::put_byte(s, at, b.kind);
+    rows::put_byte(s, at + 1, m.from);
+    rows::put_byte(s, at + 2, m.to);
+    rows::put_u16(s, at + 3, b.first);
+    rows::put_u16(s, at + 5, b.second);
+    rows::put_u16(s, at + 7, b.tries);
+    put_sequence(s, at + 9, sequence);
+    put_pair(s, at + 40, pair);
+    rows::put_u16(s, at + 47, b.updates);
+    rows::clear(s, at + 49, 31);
+}

@@ -1,0 +1,169 @@
+// The messages' bodies, and to whom they are sent. Document 01, "Steps", "Delivery at a relay", "Delivery at a desk".
+ghost use mathlib.Core.Path.{_≡_};
+ghost use Rattle.views.specs.Row.{viewsOf};
+ghost use Rattle.rules.specs.Messages as rules;
+ghost use Rattle.state.specs.Meaning.{bodyOf, sendingOf};
+ghost use Rattle.state.specs.Plans.{noSending};
+ghost use Rattle.messages.specs.Made.{blankOf, toOneOf};
+use stamps::Pair;
+use state::Body;
+use state::Sending;
+use views::Sequence;
+
+fn blank(kind: u8) -> Body
+    ensures { λ r. ⌜ r ≡ blankOf kind ⌝ }
+{
+    Body {
+        kind: kind,
+        first: 0,
+        second: 0,
+        tries: 0,
+        sequence: views::empty(),
+        pair: stamps::fresh(),
+        updates: 0,
+    }
+}
+
+pub fn request(u: u16, c: u16) -> Body
+    ensures { λ r. ⌜ bodyOf r ≡ rules.request u c ⌝ }
+{
+    let mut b = blank(1);
+    b.first = c;
+    b.updates = u;
+    b
+}
+
+pub fn view(v: u16) -> Body
+    ensures { λ r. ⌜ bodyOf r ≡ rules.view v ⌝ }
+{
+    let mut b = blank(2);
+    b.first = v;
+    b
+}
+
+pub fn proposal(v: u16, q: Sequence) -> Body
+    ensures { λ r. ⌜ bodyOf r ≡ rules.proposal v (viewsOf q) ⌝ }
+{
+    let mut b = blank(3);
+    b.first = v;
+    b.sequence = q;
+    b
+}
+
+pub fn converged(v: u16, q: Sequence) -> Body
+    ensures { λ r. ⌜ bodyOf r ≡ rules.converged v (viewsOf q) ⌝ }
+{
+    let mut b = blank(4);
+    b.first = v;
+    b.sequence = q;
+    b
+}
+
+pub fn install(o: u16, w: u16, q: Sequence) -> Body
+    ensures { λ r. ⌜ bodyOf r ≡ rules.install o w (viewsOf q) ⌝ }
+{
+    let mut b = blank(5);
+    b.first = o;
+    b.second = w;
+    b.sequence = q;
+    b
+}
+
+pub fn state(o: u16, w: u16, p: Pair, updates: u16) -> Body
+    ensures { λ r. ⌜ bodyOf r ≡ rules.state o w p updates ⌝ }
+{
+    let mut b = blank(6);
+    b.first = o;
+    b.second = w;
+    b.pair = p;
+    b.updates = updates;
+    b
+}
+
+pub fn get(tries: u16, c: u16) -> Body
+    ensures { λ r. ⌜ bodyOf r ≡ rules.get tries c ⌝ }
+{
+    let mut b = blank(7);
+    b.tries = tries;
+    b.first = c;
+    b
+}
+
+pub fn put(tries: u16, c: u16, p: Pair) -> Body
+    ensures { λ r. ⌜ bodyOf r ≡ rules.put tries c p ⌝ }
+{
+    let mut b = blank(8);
+    b.tries = tries;
+    b.first = c;
+    b.pair = p;
+    b
+}
+
+pub fn view_reply(tries: u16, v: u16) -> Body
+    ensures { λ r. ⌜ bodyOf r ≡ rules.viewReply tries v ⌝ }
+{
+    let mut b = blank(9);
+    b.tries = tries;
+    b.first = v;
+    b
+}
+
+pub fn pair_reply(tries: u16, p: Pair) -> Body
+    ensures { λ r. ⌜ bodyOf r ≡ rules.pairReply tries p ⌝ }
+{
+    let mut b = blank(10);
+    b.tries = tries;
+    b.pair = p;
+    b
+}
+
+pub fn ack(tries: u16) -> Body
+    ensures { λ r. ⌜ bodyOf r ≡ rules.ack tries ⌝ }
+{
+    let mut b = blank(11);
+    b.tries = tries;
+    b
+}
+
+pub fn no_sending() -> Sending
+    ensures { λ r. ⌜ sendingOf r ≡ noSending ⌝ }
+{
+    Sending {
+        body: ack(0),
+        receivers: 0,
+    }
+}
+
+pub fn to_members(v: u16, body: Body) -> Sending
+    ensures { λ r. ⌜ sendingOf r ≡ rules.toMembers v (bodyOf body) ⌝ }
+{
+    Sending {
+        body: body,
+        receivers: views::members(v) as u16,
+    }
+}
+
+pub fn to_both(v: u16, w: u16, body: Body) -> Sending
+    ensures { λ r. ⌜ sendingOf r ≡ rules.toBoth v w (bodyOf body) ⌝ }
+{
+    let both = views::join(views::members(v) as u16, views::members(w) as u16);
+    Sending {
+        body: body,
+        receivers: both,
+    }
+}
+
+pub fn to_one(s: u8, body: Body) -> Sending
+    ensures { λ r. ⌜ sendingOf r ≡ toOneOf s (bodyOf body) ⌝ }
+{
+    if 15 < s {
+        return Sending {
+            body: body,
+            receivers: 0,
+        };
+    }
+    Sending {
+        body: body,
+        receivers: 1 << s,
+    }
+}
