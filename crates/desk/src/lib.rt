@@ -96,21 +96,6 @@ fn is_second(phase: Phase) -> bool
     }
 }
 
-fn cleared(d: Desk, phase: Phase, v: u16, p: Pair, tries: u16) -> Desk
-    ensures { λ r. ⌜ r ≡ rule.cleared d phase v p tries ⌝ }
-{
-    Desk {
-        alive: d.alive,
-        view: v,
-        phase: phase,
-        tries: tries,
-        holds: p,
-        replied: 0,
-        best: stamps::fresh(),
-        agreed: false,
-    }
-}
-
 fn asks(phase: Phase, tries: u16, v: u16, p: Pair) -> Body
     ensures { λ r. ⌜ bodyOf r ≡ rule.asks phase tries v p ⌝ }
 {
@@ -131,7 +116,7 @@ fn begins(d: Desk, phase: Phase, v: u16, p: Pair) -> DeskPlan
     let body = asks(phase, tries, v, p);
     DeskPlan {
         answer: 0,
-        desk: cleared(d, phase, v, p, tries),
+        desk: d.cleared(phase, v, p, tries),
         first: messages::to_members(v, body),
         event: Event::Nothing,
     }
@@ -220,8 +205,7 @@ fn notes_pair(d: Desk, from: u8, p: Pair) -> Desk
 fn ends(d: Desk, event: Event) -> DeskPlan
     ensures { λ r. ⌜ deskPlanOf r ≡ planned noDesk (does (rule.ended d) [] (eventOf event)) ⌝ }
 {
-    let idle = cleared(d, Phase::Idle, d.view, stamps::fresh(), d.tries);
-    tells(idle, event)
+    tells(d.ended(), event)
 }
 
 // "write 1 takes (greatest count + 1, own number) and starts write 2"

@@ -1,4 +1,6 @@
 // Document 01's rules are definitions: specs/, in document 01's order. Here stand the values that code and rules share as they are.
+ghost use mathlib.Core.Path.{_≡_};
+ghost use Rattle.rules.specs.Desks.{cleared, ended};
 
 // A step as a sheet has it.
 pub struct Step {
@@ -27,4 +29,29 @@ pub struct Desk {
     pub replied: u8,
     pub best: stamps::Pair,
     pub agreed: bool,
+}
+
+impl Desk {
+    // "Each phase begins by adding 1 to the try, clearing the replies": the desk in its next phase.
+    pub fn cleared(self, phase: Phase, view: u16, holds: stamps::Pair, tries: u16) -> Desk
+        ensures { λ r. ⌜ r ≡ cleared self phase view holds tries ⌝ }
+    {
+        Desk {
+            alive: self.alive,
+            view: view,
+            phase: phase,
+            tries: tries,
+            holds: holds,
+            replied: 0,
+            best: stamps::fresh(),
+            agreed: false,
+        }
+    }
+
+    // "Idle, only alive, view and try stay."
+    pub fn ended(self) -> Desk
+        ensures { λ r. ⌜ r ≡ ended self ⌝ }
+    {
+        self.cleared(Phase::Idle, self.view, stamps::fresh(), self.tries)
+    }
 }
