@@ -3,6 +3,7 @@
 
 use crate::desk::{Desk, Phase};
 use crate::generator::Generator;
+use crate::image;
 use crate::message::{Body, Message, Party};
 use crate::relay::Relay;
 use crate::sets::{Sequence, View};
@@ -17,6 +18,14 @@ pub fn is_good(world: &World) -> bool {
         && world.relays.iter().all(relay)
         && world.desks.iter().all(desk)
         && world.places.iter().flatten().all(message)
+}
+
+/// The world whose image these bytes are, if they are a good world's. What the
+/// types here can't hold is no world; what they would lose (unused room that is not
+/// zero, a gap before a filled place, a sequence out of order) shows in the image.
+pub fn good_world(bytes: &[u8]) -> Option<World> {
+    let world = image::decode(bytes)?;
+    (is_good(&world) && image::encode(&world) == bytes).then_some(world)
 }
 
 fn stamp(stamp: Stamp) -> bool {

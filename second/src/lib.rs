@@ -5,6 +5,8 @@ pub mod desk;
 pub mod generate;
 pub mod generator;
 pub mod good;
+pub mod hand;
+pub mod image;
 pub mod message;
 pub mod plan;
 pub mod record;

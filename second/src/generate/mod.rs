@@ -9,7 +9,7 @@ mod rich;
 mod wild;
 
 use crate::sheet::{bytes_unchecked, Sheet};
-use random::Random;
+pub use random::Random;
 
 enum Make {
     Sheet(fn(&mut Random, usize) -> Sheet),

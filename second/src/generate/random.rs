@@ -11,7 +11,7 @@ impl Random {
         Random(named ^ seed.wrapping_mul(0x9e37_79b9_7f4a_7c15))
     }
 
-    pub fn next(&mut self) -> u64 {
+    pub fn draw(&mut self) -> u64 {
         self.0 = self.0.wrapping_add(0x9e37_79b9_7f4a_7c15);
         let mut z = self.0;
         z = (z ^ (z >> 30)).wrapping_mul(0xbf58_476d_1ce4_e5b9);
@@ -20,11 +20,11 @@ impl Random {
     }
 
     pub fn below(&mut self, bound: usize) -> usize {
-        (self.next() % (bound as u64)) as usize
+        (self.draw() % (bound as u64)) as usize
     }
 
     pub fn byte(&mut self) -> u8 {
-        self.next().to_be_bytes()[0]
+        self.draw().to_be_bytes()[0]
     }
 
     pub fn per_mille(&mut self, chance: usize) -> bool {
@@ -73,7 +73,7 @@ impl Random {
             0 => 0,
             1 => u32::MAX,
             2..=4 => u32::from(self.byte()),
-            _ => self.next() as u32,
+            _ => self.draw() as u32,
         }
     }
 }

@@ -1,0 +1,5 @@
+pub mod Reading
+pub mod Checking
+pub mod Walk
+pub mod Writing
+pub mod Back

@@ -1,0 +1,152 @@
+-- A list of steps in three slices, a loop that writes it, and what writing a sheet answers. Assumes nothing.
+use mathlib.Core.Path.{_≡_, refl, sym, ap, _∙_}
+use mathlib.Core.Bool.{true, false, _||_}
+use mathlib.Core.List.{List, [], _∷_, _++_}
+use Prim.Native.Nat.{ℕ, zero, suc, _+_, _-_, _*_, _/_, _≤_, _<_, min}
+use native.Mathlib.Nat.{zero-add}
+use native.Mathlib.Numerals.{add-one}
+use native.Mathlib.Omega.{arith}
+use lib.Dec.{eqb, ltb}
+use lib.ListN.{length, getD, drop, length-drop, drop-of-length-le}
+use lib.Pow.{shr-shr}
+use lib.Seq.{drop-cons}
+use borrow.Author.Tests.{ltb-false, eqb-false, lt-ltb, le-ltb, ne-eqb}
+use Rattle.views.proofs.Truth.{neither-true}
+use Rattle.rows.specs.Bytes.{splice, placed, bytesOf, be16, be32}
+use Rattle.rows.proofs.Laws.{placed-length, placed-nil, placed-more, placed-fits}
+use Rattle.rules.specs.declared.Step.{Step}
+use Rattle.rules.specs.Sheets.{bytes4, mark, stepBytes, stepsBytes, sheetBytes, Written as Ruling, bad-sheet, no-room, wrote, number, written}
+use Rattle.sheet.specs.declared.Written.the-variants.{Done, BadSheet, NoRoom}
+use Rattle.sheet.specs.Writing.{listed, numberOf, answerOf, writtenOf, leftOf}
+
+-- ---- the list
+
+pub listed-length : (ks is vs : List ℕ) → length (listed ks is vs) ≡ min (length ks) (min (length is) (length vs))
+unfolding listed
+listed-length [] is vs = omega arith
+listed-length (k ∷ ks) [] vs = omega arith
+listed-length (k ∷ ks) (i ∷ is) [] = omega arith
+listed-length (k ∷ ks) (i ∷ is) (v ∷ vs) = omega (arith, listed-length ks is vs)
+
+listed-at : (i : ℕ) (ks ids vs : List ℕ) (d : Step) → i < length (listed ks ids vs)
+    → getD (listed ks ids vs) i d ≡ record { kind = getD ks i 0; id = getD ids i 0; value = getD vs i 0 }
+unfolding listed
+listed-at i [] ids vs d h = absurd (omega arith)
+listed-at i (k ∷ ks) [] vs d h = absurd (omega arith)
+listed-at i (k ∷ ks) (n ∷ ids) [] d h = absurd (omega arith)
+listed-at zero (k ∷ ks) (n ∷ ids) (v ∷ vs) d h = refl
+listed-at (suc i) (k ∷ ks) (n ∷ ids) (v ∷ vs) d h = listed-at i ks ids vs d (omega arith)
+
+steps-length : (ks : List Step) → length (stepsBytes ks) ≡ 8 * length ks
+unfolding stepsBytes
+steps-length [] = refl
+steps-length (k ∷ ks) = omega (arith, steps-length ks)
+
+-- ---- the bytes of a step, as they are written
+
+value-bytes : (x : ℕ) → be32 x ≡ bytes4 x
+unfolding bytesOf
+value-bytes x =
+    let a : x / 256 / 256 ≡ x / 65536 = shr-shr x 8 8 in
+    let b : x / 65536 / 256 ≡ x / 16777216 = shr-shr x 16 8 in
+    rw (a, b)
+
+pub step-bytes : (k : Step) → (((k .kind ∷ []) ++ (k .id ∷ [])) ++ be16 0) ++ be32 (k .value) ≡ stepBytes k
+unfolding bytesOf
+step-bytes k = ap (λ (t : List ℕ). k .kind ∷ k .id ∷ 0 ∷ 0 ∷ t) (value-bytes (k .value))
+
+-- ---- the loop: with the steps from the i-th on written from o on, l is l₀ with all of them
+
+unfoldable pub rest : ℕ → List Step → List ℕ
+rest i steps = stepsBytes (drop i steps)
+
+pub record Left (steps : List Step) (l₀ l : List ℕ) (o i : ℕ) : Type 0 where
+  pub within : i ≤ length steps
+  pub at : o ≡ 6 + 8 * i
+  pub long : length l ≡ length l₀
+  pub is : placed l o (rest i steps) ≡ placed l₀ 6 (stepsBytes steps)
+
+pub left-all : {steps : List Step} {l : List ℕ} → Left steps l l 6 0
+unfolding rest
+left-all = record { within = omega arith; at = refl; long = refl; is = refl }
+
+rest-length : (i : ℕ) (steps : List Step) → length (rest i steps) ≡ 8 * (length steps - i)
+unfolding rest
+rest-length i steps = steps-length (drop i steps) ∙ ap (λ (n : ℕ). 8 * n) (length-drop i steps)
+
+rest-next : (i : ℕ) (steps : List Step) (d : Step) → i < length steps → rest i steps ≡ stepBytes (getD steps i d) ++ rest (i + 1) steps
+unfolding rest stepsBytes
+rest-next i steps d h = rw (drop-cons steps i d h, add-one i)
+
+left-step : {steps : List Step} {l₀ l : List ℕ} {o i : ℕ} (t : List ℕ) (k : Step) → Left steps l₀ l o i → i < length steps → 6 + 8 * length steps ≤ length l₀
+    → getD steps i k ≡ k → t ≡ placed l o (stepBytes k) → Left steps l₀ t (o + 8) (i + 1)
+left-step {steps} {l₀} {l} {o} {i} t k h below room e f =
+    let fit : o + (8 + length (rest (i + 1) steps)) ≤ length l = omega (arith, h .at, h .long, rest-length (i + 1) steps) in
+    let both = placed-more l (stepBytes k) (rest (i + 1) steps) o fit in
+    let next : rest i steps ≡ stepBytes k ++ rest (i + 1) steps = rest-next i steps k below ∙ ap (λ (x : Step). stepBytes x ++ rest (i + 1) steps) e in
+    record {
+      within = omega arith;
+      at = omega (arith, h .at);
+      long = ap length f ∙ placed-length l (stepBytes k) o ∙ h .long;
+      is = rw f (both ∙ ap (λ (r : List ℕ). placed l o r) (sym next) ∙ h .is);
+    }
+
+pub left-more : (ks ids vs : List ℕ) {l₀ l : List ℕ} {o i : ℕ} (t : List ℕ) → Left (listed ks ids vs) l₀ l o i → i < length (listed ks ids vs) → 6 + 8 * length (listed ks ids vs) ≤ length l₀
+    → t ≡ placed l o (stepBytes (record { kind = getD ks i 0; id = getD ids i 0; value = getD vs i 0 })) → Left (listed ks ids vs) l₀ t (o + 8) (i + 1)
+left-more ks ids vs {i = i} t h below room f = left-step t _ h below room (listed-at i ks ids vs _ below) f
+
+pub left-none : {steps : List Step} {l₀ l : List ℕ} {o i : ℕ} → Left steps l₀ l o i → length steps ≤ i → l ≡ placed l₀ 6 (stepsBytes steps)
+unfolding rest stepsBytes
+left-none {steps} {l₀} {l} {o} {i} h p =
+    let none : drop i steps ≡ [] = drop-of-length-le steps p in
+    sym (placed-nil l o) ∙ ap (λ (r : List Step). placed l o (stepsBytes r)) (sym none) ∙ h .is
+
+-- ---- the answer and the buffer; the code has counted n steps
+
+module _ (b : List ℕ) (mask : ℕ) (ks : List Step) where
+  pub size : length (sheetBytes mask ks) ≡ 6 + 8 * length ks
+  unfolding sheetBytes
+  size = omega (arith, steps-length ks)
+
+  pub number-is : numberOf (writtenOf b mask ks) ≡ number (written b mask ks)
+  unfolding writtenOf
+  number-is = go (written b mask ks)
+    where
+      go : (w : Ruling) → numberOf (answerOf (length (sheetBytes mask ks)) w) ≡ number w
+      go bad-sheet = refl
+      go no-room = refl
+      go (wrote l) = refl
+
+  pub bad : {n : ℕ} → n ≡ length ks → eqb mask 0 || ltb 8000 n ≡ true → (BadSheet ≡ writtenOf b mask ks) × (b ≡ leftOf b mask ks)
+  unfolding writtenOf leftOf written
+  bad e t = let t₁ : eqb mask 0 || ltb 8000 (length ks) ≡ true = rw e at t in (rw t₁, rw t₁)
+
+  pub ruling : (mask ≡ 0 → ⊥) → length ks ≤ 8000 → 6 + 8 * length ks ≤ length b → written b mask ks ≡ wrote (sheetBytes mask ks ++ drop (length (sheetBytes mask ks)) b)
+  unfolding written
+  ruling some few h = rw (ne-eqb mask 0 some, le-ltb 8000 (length ks) few, le-ltb (length b) (length (sheetBytes mask ks)) (omega (arith, size)))
+
+  module _ {n : ℕ} (e : n ≡ length ks) (t : eqb mask 0 || ltb 8000 n ≡ false) where
+    pub roomless : length b < 6 + n * 8 → (NoRoom ≡ writtenOf b mask ks) × (b ≡ leftOf b mask ks)
+    unfolding writtenOf leftOf written
+    roomless h =
+        let t₁ : eqb mask 0 || ltb 8000 (length ks) ≡ false = rw e at t in
+        let short = lt-ltb (length b) (length (sheetBytes mask ks)) (omega (arith, size)) in
+        (rw (t₁, short), rw (t₁, short))
+
+    module _ (room : 6 + n * 8 ≤ length b) where
+      ruled : written b mask ks ≡ wrote (sheetBytes mask ks ++ drop (length (sheetBytes mask ks)) b)
+      ruled =
+          let p = neither-true (eqb mask 0) (ltb 8000 n) t in
+          ruling (eqb-false mask 0 (p .0)) (omega (arith, ltb-false 8000 n (p .1))) (omega arith)
+
+      pub done : Done (6 + n * 8) ≡ writtenOf b mask ks
+      unfolding writtenOf
+      done = rw ruled (ap Done (omega (arith, size)))
+
+      pub left : (h l : List ℕ) → h ≡ placed b 0 (mark ++ (mask ∷ [])) → l ≡ placed h 6 (stepsBytes ks) → l ≡ leftOf b mask ks
+      unfolding leftOf splice sheetBytes
+      left h l eh el =
+          el
+          ∙ rw eh (placed-more b (mark ++ (mask ∷ [])) (stepsBytes ks) 0 (omega (arith, steps-length ks)))
+          ∙ placed-fits b (sheetBytes mask ks) 0 (omega (arith, steps-length ks))
+          ∙ rw (ruled, zero-add)

@@ -1,0 +1,63 @@
+-- `sheet::put_step` meets its contract. Assumes nothing.
+use mathlib.Core.Path.{refl, ap, _∙_}
+use mathlib.Core.List.{List}
+use Prim.Native.Nat.{ℕ}
+use native.Mathlib.Omega.{arith}
+use borrow.Author.Needs.{needs}
+use Rattle.rows.specs.Bytes.{placed}
+use Rattle.rows.proofs.Laws.{put-first, put-then}
+use Rattle.rows.proofs.Numbers.{length-be16, length-be32}
+use Rattle.sheet.proofs.Writing.{step-bytes}
+use Rattle.sheet.proofs.put_step.Statement.{statement}
+use Rattle.sheet.proofs.put_step.Tie as tie
+
+put-byte-requires : tie.Need-put-byte-requires
+put-byte-requires c κs = search needs
+
+add-put-byte : tie.Need-add-put-byte
+add-put-byte c = search needs
+
+put-byte-requires-2 : tie.Need-put-byte-requires-2
+put-byte-requires-2 c κs = search needs
+
+add-put-u16 : tie.Need-add-put-u16
+add-put-u16 c = search needs
+
+put-u16-requires : tie.Need-put-u16-requires
+put-u16-requires c κs = search needs
+
+add-put-u32 : tie.Need-add-put-u32
+add-put-u32 c = search needs
+
+put-u32-requires : tie.Need-put-u32-requires
+put-u32-requires c κs = search needs
+
+same-length : tie.Need-same-length
+same-length c = search needs
+
+returns : tie.Need-returns
+returns c =
+    let c4 = c .before .before in
+    let c3 = c4 .before .before .before .before in
+    let c2 = c3 .before .before .before .before in
+    let c1 = c2 .before .before .before .before in
+    let a = c1 .before .before .before .args in
+    let kind = put-first _ _ refl (c1 .put-byte .ensures) in
+    let id = put-then _ _ kind refl (omega arith) (c2 .put-byte2 .ensures) in
+    let zeros = put-then _ _ id (length-be16 0) (omega arith) (c3 .put-u16 .ensures) in
+    let value = put-then _ _ zeros (length-be32 (a .step .value)) (omega arith) (c4 .put-u32 .ensures) in
+    value .is ∙ ap (λ (t : List ℕ). placed (a .buf .now) (a .at) t) (step-bytes (a .step))
+
+pub put-step-spec : {M : Type 1} → statement M
+put-step-spec =
+    tie.close
+    (tie.spec
+    put-byte-requires
+    add-put-byte
+    put-byte-requires-2
+    add-put-u16
+    put-u16-requires
+    add-put-u32
+    put-u32-requires
+    same-length
+    returns)

@@ -1,0 +1,59 @@
+-- `sheet::step_at` meets its contract. Assumes nothing.
+use mathlib.Core.Path.{sym, _∙_}
+use native.Mathlib.Omega.{arith}
+use lib.ListN.{length}
+use Prim.Native.Nat.{_+_, _≤_}
+use borrow.Author.Needs.{needs}
+use borrow.Author.Tests.{leb-false, not-true}
+use Rattle.rows.proofs.Laws.{room}
+use Rattle.sheet.specs.declared.Found.the-variants.{At}
+use Rattle.sheet.proofs.Reading.{step-none, step-some, kind-at, id-at, value-at}
+use Rattle.sheet.proofs.step_at.Statement.{statement}
+use Rattle.sheet.proofs.step_at.Tie as tie
+
+space : (c : tie.Else1) → let a = c .before .before .before .args in a .at + 8 ≤ length (a .b .now)
+space c = room (c .before .has-room .ensures) (c .if1 .left)
+
+has-room-requires : tie.Need-has-room-requires
+has-room-requires c κs = search needs
+
+returns : tie.Need-returns
+returns c = sym (step-none _ _ (leb-false _ _ (sym (c .before .has-room .ensures) ∙ not-true _ (c .if1 .taken))))
+
+byte-at-requires : tie.Need-byte-at-requires
+byte-at-requires c κs = search needs
+
+add-byte-at : tie.Need-add-byte-at
+add-byte-at c = omega (arith, space (c .before))
+
+byte-at-requires-2 : tie.Need-byte-at-requires-2
+byte-at-requires-2 c κs = search needs
+
+add-read-u32 : tie.Need-add-read-u32
+add-read-u32 c = omega (arith, space (c .before .before))
+
+read-u32-requires : tie.Need-read-u32-requires
+read-u32-requires c κs = search needs
+
+returns-2 : tie.Need-returns-2
+returns-2 c =
+    let c1 = c .before in
+    let c2 = c1 .before in
+    let a = c2 .before .before .before .before .args in
+    let kind = c2 .byte-at .ensures ∙ kind-at (a .b .now) (a .at) in
+    let id = c1 .byte-at2 .ensures ∙ id-at (a .b .now) (a .at) in
+    let value = c .read-u32 .ensures ∙ value-at (a .b .now) (a .at) in
+    (λ i. At (record { kind = kind i; id = id i; value = value i })) ∙ sym (step-some _ _ (space (c2 .before)))
+
+pub step-at-spec : {M : Type 1} → statement M
+step-at-spec =
+    tie.close
+    (tie.spec
+    has-room-requires
+    returns
+    byte-at-requires
+    add-byte-at
+    byte-at-requires-2
+    add-read-u32
+    read-u32-requires
+    returns-2)

@@ -1,0 +1,29 @@
+-- What the code finds in a sheet's bytes, by the rules of crate `rules`, Sheets. Assumes nothing.
+use mathlib.Core.Bool.{true, false}
+use mathlib.Core.List.{List}
+use Prim.Native.Nat.{ℕ, _+_}
+use lib.Dec.{leb}
+use lib.ListN.{length, getD, drop}
+use Rattle.rules.specs.Sets.{if_then_else_}
+use Rattle.rules.specs.Sheets.{Sheet as Read, bad, sheet, stepIn, stepsIn, stepsOf, badSheet}
+use Rattle.sheet.specs.declared.Sheet.{Sheet}
+use Rattle.sheet.specs.declared.Found.{Found}
+use Rattle.sheet.specs.declared.Found.the-variants.{At, End}
+
+-- a sheet that is bad has no mask and no steps
+unfoldable pub checkOf : List ℕ → Sheet
+checkOf b =
+    if badSheet b then record { bad = true; mask = 0; steps = 0 }
+    else record { bad = false; mask = getD b 5 0; steps = stepsOf b }
+
+-- what the answer says of the bytes b: the rules' bad, or the rules' mask and steps
+unfoldable pub readOf : Sheet → List ℕ → Read
+readOf s b = if s .bad then bad else sheet (s .mask) (stepsIn (s .steps) (drop 6 b))
+
+-- "It is read from the front one step at a time": the step in the eight bytes at a position; the end where fewer are left
+unfoldable pub stepAt : List ℕ → ℕ → Found
+stepAt b at = if leb (at + 8) (length b) then At (stepIn (drop at b)) else End
+
+-- the position past it; at the end the same
+unfoldable pub afterOf : List ℕ → ℕ → ℕ
+afterOf b at = if leb (at + 8) (length b) then at + 8 else at

@@ -1,0 +1,207 @@
+// Sheets: bytes are checked, read from the front one step at a time, and written. Document 01, "Sheets and the printed record".
+use rows::byte_at;
+use rows::has_room;
+use rows::is_zero;
+use rows::put_byte;
+use rows::put_u16;
+use rows::put_u32;
+use rows::read_u32;
+use rules::Step;
+ghost use mathlib.Core.Path.{_≡_};
+ghost use mathlib.Core.List.{[], _∷_, _++_};
+ghost use Prim.Native.Nat.{_+_, _*_, _≤_, min};
+ghost use lib.ListN.{length, drop};
+ghost use Rattle.rows.specs.Bytes.{placed};
+ghost use Rattle.rules.specs.Sheets.{mark, marked, allZerosIn, stepBytes, stepsBytes};
+ghost use Rattle.sheet.specs.Reading.{checkOf, stepAt, afterOf};
+ghost use Rattle.sheet.specs.Writing.{listed, writtenOf, leftOf};
+
+// "the three bytes `ARS`, version 0x0001"
+const MARK: [u8; 5] = [65, 82, 83, 0, 1];
+
+// Mark, version and mask; one step; "over 8,000 steps"
+const HEAD: usize = 6;
+
+const STEP: usize = 8;
+
+const MOST: usize = 8000;
+
+pub struct Sheet {
+    pub bad: bool,
+    pub mask: u8,
+    pub steps: usize,
+}
+
+pub enum Found {
+    At(Step),
+    End,
+}
+
+pub enum Written {
+    // How many bytes the sheet has.
+    Done(usize),
+    BadSheet,
+    NoRoom,
+}
+
+const REFUSED: Sheet = Sheet {
+    bad: true,
+    mask: 0,
+    steps: 0,
+};
+
+fn is_marked(b: &[u8]) -> bool
+    ensures { λ r. ⌜ r ≡ marked (now (b .entry)) ⌝ }
+{
+    (byte_at(b, 0) == MARK[0])
+        & (byte_at(b, 1) == MARK[1])
+        & (byte_at(b, 2) == MARK[2])
+        & (byte_at(b, 3) == MARK[3])
+        & (byte_at(b, 4) == MARK[4])
+}
+
+// "non-zero in the two bytes", of each step
+fn is_blank(b: &[u8], steps: usize) -> bool
+    requires { ⌜ 6 + 8 * steps ≤ length (now b) ⌝ }
+    ensures { λ r. ⌜ r ≡ allZerosIn steps (drop 6 (now (b .entry))) ⌝ }
+{
+    let mut at = HEAD;
+    let mut left = steps;
+    while 0 < left {
+        if !is_zero(b, at + 2, 2) {
+            return false;
+        }
+        at += STEP;
+        left -= 1;
+    }
+    true
+}
+
+// "BAD SHEET: under six bytes, wrong mark, version, mask 0, a part step, non-zero in the two bytes, over 8,000 steps."
+pub fn check(b: &[u8]) -> Sheet
+    ensures { λ r. ⌜ r ≡ checkOf (now (b .entry)) ⌝ }
+{
+    if b.len() < HEAD {
+        return REFUSED;
+    }
+    if !is_marked(b) {
+        return REFUSED;
+    }
+    let mask = byte_at(b, 5);
+    if mask == 0 {
+        return REFUSED;
+    }
+    if (b.len() - HEAD) % STEP != 0 {
+        return REFUSED;
+    }
+    let steps = (b.len() - HEAD) / STEP;
+    if !is_blank(b, steps) {
+        return REFUSED;
+    }
+    if MOST < steps {
+        return REFUSED;
+    }
+    Sheet {
+        bad: false,
+        mask,
+        steps,
+    }
+}
+
+// The step in the eight bytes at a position.
+pub fn step_at(b: &[u8], at: usize) -> Found
+    ensures { λ r. ⌜ r ≡ stepAt (now (b .entry)) at ⌝ }
+{
+    if !has_room(b.len(), at, STEP) {
+        return Found::End;
+    }
+    let kind = byte_at(b, at);
+    let id = byte_at(b, at + 1);
+    let value = read_u32(b, at + 4);
+    Found::At(Step { kind, id, value })
+}
+
+// The position past it; at the end the same.
+pub fn after(b: &[u8], at: usize) -> usize
+    ensures { λ r. ⌜ r ≡ afterOf (now (b .entry)) at ⌝ }
+{
+    if has_room(b.len(), at, STEP) {
+        return at + STEP;
+    }
+    at
+}
+
+fn least(a: usize, b: usize) -> usize
+    ensures { λ r. ⌜ r ≡ min a b ⌝ }
+{
+    if a < b {
+        return a;
+    }
+    b
+}
+
+fn count(kinds: &[u8], ids: &[u8], values: &[u32]) -> usize
+    ensures { λ r. ⌜ r ≡ length (listed (now (kinds .entry)) (now (ids .entry)) (now (values .entry))) ⌝ }
+{
+    least(kinds.len(), least(ids.len(), values.len()))
+}
+
+fn put_head(buf: &mut [u8], mask: u8)
+    requires { ⌜ 6 ≤ length (now buf) ⌝ }
+    ensures { λ _. ⌜ now (buf .exit) ≡ placed (now (buf .entry)) 0 (mark ++ (mask ∷ [])) ⌝ }
+{
+    put_byte(buf, 0, MARK[0]);
+    put_byte(buf, 1, MARK[1]);
+    put_byte(buf, 2, MARK[2]);
+    put_byte(buf, 3, MARK[3]);
+    put_byte(buf, 4, MARK[4]);
+    put_byte(buf, 5, mask);
+}
+
+// "8 bytes a step: kind, id, two zero bytes, value"
+fn put_step(buf: &mut [u8], at: usize, step: Step)
+    requires { ⌜ at + 8 ≤ length (now buf) ⌝ }
+    ensures { λ _. ⌜ now (buf .exit) ≡ placed (now (buf .entry)) at (stepBytes step) ⌝ }
+{
+    put_byte(buf, at, step.kind);
+    put_byte(buf, at + 1, step.id);
+    put_u16(buf, at + 2, 0);
+    put_u32(buf, at + 4, step.value);
+}
+
+fn put_steps(buf: &mut [u8], n: usize, kinds: &[u8], ids: &[u8], values: &[u32])
+    requires { ⌜ n ≡ length (listed (now kinds) (now ids) (now values)) ⌝ }
+    requires { ⌜ 6 + 8 * n ≤ length (now buf) ⌝ }
+    ensures { λ _. ⌜ now (buf .exit) ≡ placed (now (buf .entry)) 6 (stepsBytes (listed (now (kinds .entry)) (now (ids .entry)) (now (values .entry)))) ⌝ }
+{
+    let mut at = HEAD;
+    let mut i = 0;
+    while i < n {
+        let step = Step {
+            kind: kinds[i],
+            id: ids[i],
+            value: values[i],
+        };
+        put_step(buf, at, step);
+        at += STEP;
+        i += 1;
+    }
+}
+
+// "A list with its mask is written into a lent buffer: BAD SHEET for mask 0 or over 8,000 steps, then NO ROOM; bytes past the sheet stay."
+pub fn write(buf: &mut [u8], mask: u8, kinds: &[u8], ids: &[u8], values: &[u32]) -> Written
+    ensures answer { λ r. ⌜ r ≡ writtenOf (now (buf .entry)) mask (listed (now (kinds .entry)) (now (ids .entry)) (now (values .entry))) ⌝ }
+    ensures left { λ _. ⌜ now (buf .exit) ≡ leftOf (now (buf .entry)) mask (listed (now (kinds .entry)) (now (ids .entry)) (now (values .entry))) ⌝ }
+{
+    let n = count(kinds, ids, values);
+    if (mask == 0) | (MOST < n) {
+        return Written::BadSheet;
+    }
+    let size = HEAD + n * STEP;
+    if buf.len() < size {
+        return Written::NoRoom;
+    }
+    put_head(buf, mask);
+    put_steps(buf, n, kinds, ids, values);
+    Written::Done(size)
+}
