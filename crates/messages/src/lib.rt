@@ -2,9 +2,10 @@
 ghost use mathlib.Core.Path.{_≡_};
 ghost use Rattle.views.specs.Row.{viewsOf};
 ghost use Rattle.rules.specs.Messages as rules;
+ghost use Rattle.rules.specs.Image.{row, bodyRow};
 ghost use Rattle.state.specs.Meaning.{bodyOf, sendingOf};
 ghost use Rattle.state.specs.Plans.{noSending};
-ghost use Rattle.messages.specs.Made.{blankOf, toOneOf};
+ghost use Rattle.messages.specs.Made.{blankOf, fieldsOf, tryIn, toOneOf};
 use stamps::Pair;
 use state::Body;
 use state::Sending;
@@ -123,6 +124,82 @@ pub fn ack(tries: u16) -> Body
     let mut b = blank(11);
     b.tries = tries;
     b
+}
+
+// A body of that kind, from all its fields.
+fn says(
+    kind: u8,
+    first: u16,
+    second: u16,
+    tries: u16,
+    sequence: Sequence,
+    pair: Pair,
+    updates: u16,
+) -> Body
+    ensures { λ r. ⌜ fieldsOf r ≡ row kind 0 0 first second tries (viewsOf sequence) pair updates ⌝ }
+{
+    Body {
+        kind: kind,
+        first: first,
+        second: second,
+        tries: tries,
+        sequence: sequence,
+        pair: pair,
+        updates: updates,
+    }
+}
+
+// The same body as its own kind has it: "unused room is zero". A number that is no kind is an acknowledgement's.
+pub fn plain(b: Body) -> Body
+    ensures { λ r. ⌜ fieldsOf r ≡ bodyRow 0 0 (bodyOf b) ⌝ }
+{
+    let kind = b.kind;
+    let q = b.sequence;
+    let p = b.pair;
+    let none = views::empty();
+    let zero = stamps::fresh();
+    if kind == 1 {
+        return says(1, b.first, 0, 0, none, zero, b.updates);
+    }
+    if kind == 2 {
+        return says(2, b.first, 0, 0, none, zero, 0);
+    }
+    if kind == 3 {
+        return says(3, b.first, 0, 0, q, zero, 0);
+    }
+    if kind == 4 {
+        return says(4, b.first, 0, 0, q, zero, 0);
+    }
+    if kind == 5 {
+        return says(5, b.first, b.second, 0, q, zero, 0);
+    }
+    if kind == 6 {
+        return says(6, b.first, b.second, 0, none, p, b.updates);
+    }
+    plain_try(b)
+}
+
+// The kinds that have a try.
+fn plain_try(b: Body) -> Body
+    ensures { λ r. ⌜ fieldsOf r ≡ bodyRow 0 0 (tryIn b) ⌝ }
+{
+    let kind = b.kind;
+    let p = b.pair;
+    let none = views::empty();
+    let zero = stamps::fresh();
+    if kind == 7 {
+        return says(7, b.first, 0, b.tries, none, zero, 0);
+    }
+    if kind == 8 {
+        return says(8, b.first, 0, b.tries, none, p, 0);
+    }
+    if kind == 9 {
+        return says(9, b.first, 0, b.tries, none, zero, 0);
+    }
+    if kind == 10 {
+        return says(10, 0, 0, b.tries, none, p, 0);
+    }
+    says(11, 0, 0, b.tries, none, zero, 0)
 }
 
 pub fn no_sending() -> Sending

@@ -1,0 +1,129 @@
+-- A relay sends at most two things in a step, a desk at most one: what goes out is the copies of the first and of the second. Assumes nothing.
+use mathlib.Core.Path.{_≡_, refl, subst}
+use mathlib.Core.Bool.{_&&_}
+use mathlib.Core.List.{List, [], _∷_, _++_, append-nil}
+use Prim.Native.Nat.{ℕ, _≤_}
+use native.Mathlib.Omega.{arith}
+use lib.Dec.{lit≤}
+use lib.ListN.{length}
+use Rattle.views.proofs.Truth.{cases}
+use Rattle.rules.specs.Sets.{those, inside, reaches}
+use Rattle.rules.specs.Stamps.{Pair}
+use Rattle.rules.specs.Messages.{Body, request, view, proposal, converged, install, state, get, put, viewReply, pairReply, ack, Sending, copies, outgoing, Event, Refusal, Answer, refused, does}
+use Rattle.rules.specs.State.{Relay}
+use Rattle.rules.specs.declared.Desk.{Desk}
+use Rattle.rules.specs.declared.Phase.{Phase}
+use Rattle.rules.specs.declared.Phase.the-variants.{Idle, Read1, Read2, Write1, Write2}
+use Rattle.rules.specs.Relays.{joinAsked, leaveAsked, timerRang, relayHears}
+use Rattle.rules.specs.Desks.{isIdle, isFirst, isSecond, full, begins, readAsked, writeAsked, current, viewCame, notesPair, notesAck, stamps, completes, counted, pairCame, ackCame, deskHears}
+use Rattle.state.specs.Plans.{noSending, sendingAt}
+use Rattle.world.specs.Narrow.{Move, widens}
+use Rattle.world.proofs.NarrowWide.{hears-wide, join-wide, leave-wide, timer-wide}
+use Rattle.world.proofs.NarrowLocal.{LocalAnswer, hears-local, join-local, leave-local, timer-local}
+
+-- ---- what goes out
+
+module _ (from : ℕ) where
+  pub none-copied : copies from noSending ≡ []
+  unfolding copies those
+  none-copied = refl
+
+  pub one-out : (ss : List Sending) → length ss ≤ 1 → outgoing from ss ≡ copies from (sendingAt ss 0)
+  unfolding outgoing
+  one-out [] h = rw none-copied
+  one-out (a ∷ []) h = append-nil (copies from a)
+  one-out (a ∷ b ∷ ss) h = absurd (omega arith)
+
+  pub two-out : (ss : List Sending) → length ss ≤ 2 → outgoing from ss ≡ copies from (sendingAt ss 0) ++ copies from (sendingAt ss 1)
+  unfolding outgoing
+  two-out [] h = rw none-copied
+  two-out (a ∷ []) h = rw none-copied
+  two-out (a ∷ b ∷ []) h = rw (append-nil (copies from b))
+  two-out (a ∷ b ∷ c ∷ ss) h = absurd (omega arith)
+
+-- ---- an answer that sends at most k
+
+unfoldable pub Few : {A : Type 0} → ℕ → Answer A → Type 0
+Few k (refused x) = Unit {0}
+Few k (does a ss e) = length ss ≤ k
+
+module _ {A : Type 0} (k : ℕ) where
+  pub few-does : (a : A) (ss : List Sending) (e : Event) → length ss ≤ k → Few k (does a ss e)
+  unfolding Few
+  few-does a ss e h = h
+
+  -- of an answer that is known
+  pub few-sent : {b : Answer A} {a : A} {ss : List Sending} {e : Event} → Few k b → b ≡ does a ss e → length ss ≤ k
+  unfolding Few
+  few-sent h e = subst (Few k) e h
+
+-- ---- relays
+
+few-wide : (r : Relay) (x v : ℕ) (m : Move) (k : ℕ) (a b : Answer Relay) → a ≡ widens r b → LocalAnswer x v m k b → Few k a
+unfolding LocalAnswer Few
+few-wide r x v m k a (refused y) e h = rw e tt
+few-wide r x v m k a (does n ss y) e h = rw e (h .few)
+
+module _ (s : ℕ) (r : Relay) where
+  pub hears-few : (from : ℕ) (b : Body) → Few 2 (relayHears s r from b)
+  hears-few from b = few-wide r _ _ _ 2 _ _ (hears-wide s r from b) (hears-local r s from b)
+
+  pub join-few : Few 2 (joinAsked s r)
+  join-few = few-wide r _ _ _ 2 _ _ (join-wide s r) (join-local r s)
+
+  pub leave-few : Few 2 (leaveAsked s r)
+  leave-few = few-wide r _ _ _ 2 _ _ (leave-wide s r) (leave-local r s)
+
+pub timer-few : (r : Relay) → Few 2 (timerRang r)
+timer-few r = few-wide r _ _ _ 2 _ _ (timer-wide r) (timer-local r)
+
+-- ---- desks
+
+abbrev Once : Answer Desk → Type 0
+Once a = Few 1 a
+
+refuses-few : (x : Refusal) → Once (refused x)
+unfolding Few
+refuses-few x = tt
+
+begins-few : (d : Desk) (ph : Phase) (v : ℕ) (p : Pair) → Once (begins d ph v p)
+unfolding begins
+begins-few d ph v p = cases (Few 1) (full (d .tries)) (λ _. refuses-few _) (λ _. few-does 1 _ _ _ (lit≤ tt))
+
+pub read-few : (d : Desk) → Once (readAsked d)
+unfolding readAsked
+read-few d = cases (Few 1) (isIdle (d .phase)) (λ _. begins-few d _ _ _) (λ _. refuses-few _)
+
+pub write-few : (d : Desk) (x : ℕ) → Once (writeAsked d x)
+unfolding writeAsked
+write-few d x = cases (Few 1) (isIdle (d .phase)) (λ _. begins-few d _ _ _) (λ _. refuses-few _)
+
+quiet-few : (d : Desk) (e : Event) → Once (does d [] e)
+quiet-few d e = few-does 1 d [] e (lit≤ tt)
+
+module _ (n : ℕ) (d : Desk) where
+  completes-few : (ph : Phase) → Once (completes n d ph)
+  unfolding completes stamps
+  completes-few Idle = quiet-few d _
+  completes-few Read1 = cases (Few 1) (d .agreed) (λ _. quiet-few _ _) (λ _. begins-few d _ _ _)
+  completes-few Read2 = quiet-few _ _
+  completes-few Write1 = cases (Few 1) (full (d .best .stamp .count)) (λ _. refuses-few _) (λ _. begins-few d _ _ _)
+  completes-few Write2 = quiet-few _ _
+
+  counted-few : Once (counted n d)
+  unfolding counted
+  counted-few = cases (Few 1) (reaches (d .view) (d .replied)) (λ _. completes-few (d .phase)) (λ _. quiet-few d _)
+
+pub desk-few : (n : ℕ) (d : Desk) (from : ℕ) (b : Body) → Once (deskHears n d from b)
+unfolding deskHears viewCame pairCame ackCame
+desk-few n d from (viewReply try v) = cases (Few 1) (current d from try && inside (d .view) v) (λ _. begins-few d _ _ _) (λ _. quiet-few d _)
+desk-few n d from (pairReply try p) = cases (Few 1) (current d from try && isFirst (d .phase)) (λ _. counted-few n (notesPair d from p)) (λ _. quiet-few d _)
+desk-few n d from (ack try) = cases (Few 1) (current d from try && isSecond (d .phase)) (λ _. counted-few n (notesAck d from)) (λ _. quiet-few d _)
+desk-few n d from (request u c) = quiet-few d _
+desk-few n d from (view v) = quiet-few d _
+desk-few n d from (proposal v q) = quiet-few d _
+desk-few n d from (converged v q) = quiet-few d _
+desk-few n d from (install o w q) = quiet-few d _
+desk-few n d from (state o w p u) = quiet-few d _
+desk-few n d from (get try c) = quiet-few d _
+desk-few n d from (put try c p) = quiet-few d _

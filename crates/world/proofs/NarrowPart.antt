@@ -1,0 +1,141 @@
+-- What the part of a good relay shows, and what the whole relay becomes: one generator and one transfer are written at their seats, or transfers are freed.
+-- Assumes nothing.
+use mathlib.Core.Path.{_≡_}
+use mathlib.Core.Logic.{_≢_, _⊎_}
+use mathlib.Core.Bool.{Bool, true, false}
+use mathlib.Core.List.{List, [], _∷_}
+use Prim.Native.Nat.{ℕ, zero, suc, _≤_, _<_}
+use native.Mathlib.Nat.{le-of-suc-le-suc}
+use native.Mathlib.Omega.{arith}
+use lib.Dec.{eqb, leb, ltb}
+use lib.ListN.{length, getD}
+use borrow.Author.Tests.{leb-true, ne-eqb}
+use Rattle.views.proofs.Sets.{member-not-empty}
+use Rattle.rules.specs.Sets.{those, inside, all}
+use Rattle.rules.specs.State.{Generator, Transfer, Relay}
+use Rattle.rules.specs.Generators.{fresh, generatorFor}
+use Rattle.rules.specs.Relays.{freshTransfer, isFor, transferFor}
+use Rattle.rules.specs.WellFormed.{goodGenerator, goodTransfer, goodGenerators, goodTransfers, goodRelay}
+use Rattle.rules.proofs.Hold.{hold-facts, all-parts}
+use Rattle.rules.proofs.Generators.{gen-facts}
+use Rattle.rules.proofs.Relays.{Rel, rel-facts}
+use Rattle.rules.proofs.Transfers.{tra-facts, move-facts}
+use Rattle.rules.proofs.ImageChange.{Changed}
+use Rattle.world.specs.Narrow.{Move, move, narrow, widened}
+use Rattle.world.proofs.NarrowTable.{byView, byMove, those-none, part-one}
+use Rattle.world.proofs.NarrowSeat.{seat, those-fewer, part-present, part-absent, put-changed, put-fits}
+
+-- the seats of a view and of a move
+abbrev pub seatOfView : ℕ → List Generator → ℕ
+seatOfView v gs = seat (λ g. eqb (g .view) v) gs
+
+abbrev pub seatOfMove : Move → List Transfer → ℕ
+seatOfMove m ts = seat (isFor (m .old) (m .new)) ts
+
+-- ---- what the part of a good relay shows
+
+all-within : {A : Type 0} (f : A → Bool) (xs : List A) (k : ℕ) (d : A) → all f xs ≡ true → k < length xs → f (getD xs k d) ≡ true
+all-within f [] k d a h = absurd (omega arith)
+all-within f (x ∷ xs) zero d a h = all-parts f x xs a .0
+all-within f (x ∷ xs) (suc k) d a h = all-within f xs k d (all-parts f x xs a .1) (le-of-suc-le-suc h)
+
+some-view : (s : ℕ) (g : Generator) → goodGenerator s g ≡ true → g .view ≢ 0
+some-view s g e = member-not-empty (g .view) s (gen-facts s g e .owner)
+
+some-old : (s : ℕ) (t : Transfer) → goodTransfer s t ≡ true → t .old ≢ 0
+some-old s t e = move-facts (t .old) (t .new) (tra-facts s t e .move) .some
+
+module _ (s : ℕ) (r : Relay) (good : goodRelay s r ≡ true) where
+  rel : Rel s r
+  rel = rel-facts s r good
+
+  pub generators-fit : length (r .generators) ≤ 8
+  unfolding goodRelay goodGenerators
+  generators-fit = leb-true _ _ (hold-facts _ (hold-facts _ good .1 .1 .1 .1 .1 .1 .0) .0)
+
+  pub transfers-fit : length (r .transfers) ≤ 8
+  unfolding goodRelay goodTransfers
+  transfers-fit = leb-true _ _ (hold-facts _ (hold-facts _ good .1 .1 .1 .1 .1 .1 .1 .0) .0)
+
+  -- no generator is for the view 0, no transfer is from it
+  pub no-generator : (m : Move) → narrow r 0 m .generators ≡ []
+  unfolding narrow
+  no-generator m =
+      those-none (goodGenerator s) (λ g. eqb (g .view) 0) (λ g e. ne-eqb (g .view) 0 (some-view s g e)) (r .generators) (rel .generators)
+
+  pub no-transfer : (v w : ℕ) → narrow r v (move 0 w) .transfers ≡ []
+  unfolding narrow
+  no-transfer v w =
+      those-none (goodTransfer s) (isFor 0 w) (λ t e. rw (ne-eqb (t .old) 0 (some-old s t e))) (r .transfers) (rel .transfers)
+
+  -- so a place is filled exactly where it names one
+  pub generator-filled : (k : ℕ) → k < length (r .generators) → getD (r .generators) k (fresh 0) .view ≢ 0
+  generator-filled k h = some-view s _ (all-within (goodGenerator s) (r .generators) k (fresh 0) (rel .generators) h)
+
+  pub transfer-filled : (k : ℕ) → k < length (r .transfers) → getD (r .transfers) k (freshTransfer 0 0) .old ≢ 0
+  transfer-filled k h = some-old s _ (all-within (goodTransfer s) (r .transfers) k (freshTransfer 0 0) (rel .transfers) h)
+
+  module _ (v : ℕ) (m : Move) where
+    pub generator-shown : (narrow r v m .generators ≡ []) ⊎ (narrow r v m .generators ≡ generatorFor v (r .generators) ∷ [])
+    unfolding narrow
+    generator-shown = part-one byView v (r .generators) (rel .different)
+
+    pub transfer-shown : (narrow r v m .transfers ≡ []) ⊎ (narrow r v m .transfers ≡ transferFor (m .old) (m .new) (r .transfers) ∷ [])
+    unfolding narrow
+    transfer-shown = part-one byMove m (r .transfers) (rel .apart)
+
+    pub generator-there : seatOfView v (r .generators) < length (r .generators) → narrow r v m .generators ≡ getD (r .generators) (seatOfView v (r .generators)) (fresh 0) ∷ []
+    unfolding narrow
+    generator-there h = part-present byView v (r .generators) (fresh 0) (rel .different) h
+
+    pub generator-absent : seatOfView v (r .generators) ≡ length (r .generators) → narrow r v m .generators ≡ []
+    unfolding narrow
+    generator-absent h = part-absent byView v (r .generators) h
+
+    pub transfer-there : seatOfMove m (r .transfers) < length (r .transfers) → narrow r v m .transfers ≡ getD (r .transfers) (seatOfMove m (r .transfers)) (freshTransfer 0 0) ∷ []
+    unfolding narrow
+    transfer-there h = part-present byMove m (r .transfers) (freshTransfer 0 0) (rel .apart) h
+
+    pub transfer-absent : seatOfMove m (r .transfers) ≡ length (r .transfers) → narrow r v m .transfers ≡ []
+    unfolding narrow
+    transfer-absent h = part-absent byMove m (r .transfers) h
+
+-- ---- what the whole relay r becomes when its part becomes n
+
+module _ (r n : Relay) where
+  pub generators-stay : n .generators ≡ [] → widened r n .generators ≡ r .generators
+  unfolding widened
+  generators-stay e = rw e
+
+  module _ (g : Generator) (e : n .generators ≡ g ∷ []) (v : ℕ) (for : g .view ≡ v) where
+    pub generator-written : Changed (fresh 0) (r .generators) (seatOfView v (r .generators)) g (widened r n .generators)
+    unfolding widened
+    generator-written = rw e (put-changed byView v g for (fresh 0) (r .generators))
+
+    pub generator-room : (k : ℕ) → length (r .generators) ≤ k → leb (length (widened r n .generators)) k ≡ ltb (seatOfView v (r .generators)) k
+    unfolding widened
+    generator-room k h = rw e (put-fits byView v g for k (r .generators) h)
+
+  -- the view is as it was
+  module _ (same : eqb (n .view) (r .view) ≡ true) where
+    pub transfers-stay : n .transfers ≡ [] → widened r n .transfers ≡ r .transfers
+    unfolding widened
+    transfers-stay e = rw (same, e)
+
+    module _ (t : Transfer) (e : n .transfers ≡ t ∷ []) (m : Move) (for : move (t .old) (t .new) ≡ m) where
+      pub transfer-written : Changed (freshTransfer 0 0) (r .transfers) (seatOfMove m (r .transfers)) t (widened r n .transfers)
+      unfolding widened
+      transfer-written = rw (same, e) (put-changed byMove m t for (freshTransfer 0 0) (r .transfers))
+
+      pub transfer-room : (k : ℕ) → length (r .transfers) ≤ k → leb (length (widened r n .transfers)) k ≡ ltb (seatOfMove m (r .transfers)) k
+      unfolding widened
+      transfer-room k h = rw (same, e) (put-fits byMove m t for k (r .transfers) h)
+
+  -- an entry
+  module _ (new : eqb (n .view) (r .view) ≡ false) where
+    pub transfers-freed : widened r n .transfers ≡ those (λ u. inside (n .view) (u .new)) (r .transfers)
+    unfolding widened
+    transfers-freed = rw new
+
+    pub freed-fewer : length (widened r n .transfers) ≤ length (r .transfers)
+    freed-fewer = rw transfers-freed (those-fewer (λ u. inside (n .view) (u .new)) (r .transfers))

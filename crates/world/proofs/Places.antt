@@ -1,0 +1,244 @@
+-- The message places of an image: which are free, how many, and what placing, freeing and sending make of them. Assumes nothing.
+use mathlib.Core.Path.{_≡_, refl, sym, ap, _∙_}
+use mathlib.Core.Logic.{_≢_, ⊎-elim}
+use mathlib.Core.Bool.{Bool, true, false}
+use mathlib.Core.List.{List, [], _∷_, _++_, map}
+use Prim.Native.Nat.{ℕ, zero, suc, _+_, _*_, _≤_, _<_, suc-le-suc}
+use native.Mathlib.Nat.{le-of-suc-le-suc}
+use native.Mathlib.Numerals.{add-one}
+use native.Mathlib.Omega.{arith}
+use lib.Dec.{eqb, ltb}
+use lib.ListN.{length, getD, set, length-set, length-append, length-map}
+use borrow.Author.Tests.{ltb-true, ltb-false}
+use Rattle.views.proofs.Truth.{decided, contrary}
+use Rattle.rows.specs.Bytes.{placed, splice, tab, cat, zeros}
+use Rattle.rows.proofs.Laws.{Holds, holds-byte, placed-fits}
+use Rattle.rules.specs.Sets.{if_then_else_, bit, those}
+use Rattle.rules.specs.Messages.{Body, request, view, proposal, converged, install, state, get, put, viewReply, pairReply, ack, Message, Sending, copies}
+use Rattle.rules.specs.State.{Place, free, waiting, World, placeAt, withPlaces}
+use Rattle.rules.specs.Sending.{place, placeAll, freeIn}
+use Rattle.rules.specs.Steps.{freed}
+use Rattle.rules.specs.Image.{bodyRow, placeRow, rowBytes, placeBytes, image}
+use Rattle.rules.proofs.ImageWidths.{length-place, length-image}
+use Rattle.rules.proofs.ImageChange.{changed-set, changed-place}
+use Rattle.rules.proofs.ImageRead.{holds-place}
+use Rattle.rules.proofs.ImageWrite.{put-place}
+use Rattle.rules.proofs.ImageZeros.{place-zeros}
+use Rattle.world.specs.Commits.{First, freeRow, freeRows, receiversBelow, freedAt, message, isWaiting, delivered}
+use Rattle.world.proofs.Lists.{those-more, those-same}
+
+-- ---- a place's kind is 0 exactly where it is free
+
+abbrev pub isFree : Place → Bool
+isFree free = true
+isFree (waiting m) = false
+
+body-kind : (s r : ℕ) (b : Body) → eqb (bodyRow s r b .kind) 0 ≡ false
+body-kind s r (request u c) = refl
+body-kind s r (view v) = refl
+body-kind s r (proposal v q) = refl
+body-kind s r (converged v q) = refl
+body-kind s r (install o w q) = refl
+body-kind s r (state o w p u) = refl
+body-kind s r (get try c) = refl
+body-kind s r (put try c p) = refl
+body-kind s r (viewReply try v) = refl
+body-kind s r (pairReply try p) = refl
+body-kind s r (ack try) = refl
+
+place-kind : (p : Place) → eqb (placeRow p .kind) 0 ≡ isFree p
+place-kind free = refl
+place-kind (waiting m) = body-kind (m .from) (m .to) (m .body)
+
+kind-byte : (l : List ℕ) (o : ℕ) (p : Place) → Holds l o (placeBytes p) → getD l o 0 ≡ placeRow p .kind
+unfolding placeBytes rowBytes cat
+kind-byte l o p h = holds-byte l o (placeRow p .kind) _ h
+
+pub not-free : (p : Place) → isFree p ≡ false → p ≢ free
+not-free free e q = contrary refl e
+not-free (waiting m) e q = let z : _≡_ {A = ℕ} 0 1 = cc in omega arith
+
+pub is-free : (p : Place) → isFree p ≡ true → p ≡ free
+is-free free e = refl
+is-free (waiting m) e = absurd (contrary e refl)
+
+pub is-waiting : (p : Place) → isWaiting p ≡ true → isFree p ≡ false
+is-waiting free e = absurd (contrary e refl)
+is-waiting (waiting m) e = refl
+
+-- ---- how many are free
+
+unfoldable freeTo : List Place → ℕ → ℕ
+freeTo ps zero = 0
+freeTo ps (suc n) = freeTo ps n + (if isFree (getD ps n free) then 1 else 0)
+
+free-to-more : (x : Place) (ps : List Place) (n : ℕ) → freeTo (x ∷ ps) (suc n) ≡ (if isFree x then 1 else 0) + freeTo ps n
+unfolding freeTo
+free-to-more x ps zero = omega arith
+free-to-more x ps (suc n) = omega (arith, free-to-more x ps n)
+
+free-to-all : (ps : List Place) → freeTo ps (length ps) ≡ freeIn ps
+unfolding freeIn freeTo
+free-to-all [] = refl
+free-to-all (free ∷ ps) = omega (arith, free-to-more free ps (length ps), free-to-all ps)
+free-to-all (waiting m ∷ ps) = omega (arith, free-to-more (waiting m) ps (length ps), free-to-all ps)
+
+module _ (w : World) where
+  pub free-row : (p : ℕ) → p < 256 → freeRow (image w) p ≡ isFree (placeAt w p)
+  unfolding freeRow
+  free-row p h = ap (λ (k : ℕ). eqb k 0) (kind-byte (image w) (43776 + p * 80) (placeAt w p) (holds-place w p h)) ∙ place-kind (placeAt w p)
+
+  rows-to : (n : ℕ) → n ≤ 256 → freeRows (image w) n ≡ freeTo (w .places) n
+  unfolding freeRows freeTo
+  rows-to zero h = refl
+  rows-to (suc n) h = rw (rows-to n (omega arith), free-row n (omega arith))
+
+  pub free-rows : length (w .places) ≡ 256 → freeRows (image w) 256 ≡ freeIn (w .places)
+  free-rows e = rows-to 256 (omega arith) ∙ ap (freeTo (w .places)) (sym e) ∙ free-to-all (w .places)
+
+pub rows-none : (l : List ℕ) → 0 ≡ freeRows l 0
+unfolding freeRows
+rows-none l = refl
+
+pub rows-more : (l : List ℕ) (n : ℕ) → freeRows l (n + 1) ≡ freeRows l n + (if freeRow l n then 1 else 0)
+unfolding freeRows
+rows-more l n = rw (add-one, freeRows)
+
+-- ---- a place freed
+
+free-more : (ps : List Place) (p : ℕ) → p < length ps → isFree (getD ps p free) ≡ false → freeIn (set ps p free) ≡ freeIn ps + 1
+unfolding freeIn
+free-more [] p h e = absurd (omega arith)
+free-more (free ∷ ps) zero h e = absurd (contrary refl e)
+free-more (waiting m ∷ ps) zero h e = omega arith
+free-more (free ∷ ps) (suc p) h e = omega (arith, free-more ps p (le-of-suc-le-suc h) e)
+free-more (waiting m ∷ ps) (suc p) h e = free-more ps p (le-of-suc-le-suc h) e
+
+-- by whether a place is delivered
+module _ (P : World → Type 0) (w : World) (p : ℕ) where
+  pub by-delivered : (p < 256 → P (freed w p)) → (256 ≤ p → P w) → P (freedAt w p)
+  unfolding freedAt
+  by-delivered f g = ⊎-elim (λ e. rw e (f (ltb-true p 256 e))) (λ e. rw e (g (ltb-false p 256 e))) (decided (ltb p 256))
+
+module _ (w : World) (long : length (w .places) ≡ 256) (p : ℕ) where
+  pub freed-long : length (freedAt w p .places) ≡ 256
+  freed-long = by-delivered (λ v. length (v .places) ≡ 256) w p (λ h. unfold freed in (length-set (w .places) p free ∙ long)) (λ h. long)
+
+  pub freed-rooms : delivered w p ≡ true → freeIn (freedAt w p .places) ≡ freeIn (w .places) + (if ltb p 256 then 1 else 0)
+  unfolding delivered freedAt freed
+  freed-rooms e =
+      ⊎-elim (λ t. let h = ltb-true p 256 t in rw t (free-more (w .places) p (omega arith) (is-waiting (placeAt w p) (rw t at e))))
+      (λ t. rw t (omega arith)) (decided (ltb p 256))
+
+-- ---- written
+
+fits-place : (w : World) (p : ℕ) (x : Place) → p < 256 → placed (image w) (43776 + p * 80) (placeBytes x) ≡ splice (image w) (43776 + p * 80) (placeBytes x)
+fits-place w p x h = placed-fits (image w) (placeBytes x) (43776 + p * 80) (omega (arith, length-place x, length-image w))
+
+full : (m : Message) (ps : List Place) → ((k : ℕ) → k < length ps → getD ps k free ≢ free) → place m ps ≡ ps
+unfolding place
+full m [] q = refl
+full m (free ∷ ps) q = absurd (q 0 (omega arith) refl)
+full m (waiting x ∷ ps) q = ap (λ (l : List Place). waiting x ∷ l) (full m ps (λ k r. q (suc k) (suc-le-suc r)))
+
+module _ (w : World) (long : length (w .places) ≡ 256) where
+  -- "DELIVER frees its place first"
+  pub put-free : (p : ℕ) → p < 256 → placed (image w) (43776 + p * 80) (zeros 80) ≡ image (freed w p)
+  unfolding freed
+  put-free p h =
+      rw (← place-zeros) (fits-place w p free h ∙ put-place w (set (w .places) p free) p free (changed-set (w .places) p free (omega arith)) h)
+
+  -- "A new message takes the lowest free place"
+  pub put-lowest : (m : Message) (p : ℕ) → First 256 (freeRow (image w)) p → p < 256
+      → placed (image w) (43776 + p * 80) (placeBytes (waiting m)) ≡ image (withPlaces w (place m (w .places)))
+  put-lowest m p f h =
+      fits-place w p (waiting m) h
+      ∙ put-place w (place m (w .places)) p (waiting m)
+      (changed-place m (w .places) p (omega arith) (λ k q. not-free _ (sym (free-row w k (omega arith)) ∙ f .below k q)) (is-free _ (sym (free-row w p h) ∙ f .here h))) h
+
+  -- where none is free, it takes none
+  pub put-nowhere : (m : Message) (p : ℕ) → First 256 (freeRow (image w)) p → 256 ≤ p → place m (w .places) ≡ w .places
+  put-nowhere m p f h = full m (w .places) (λ k q. not-free _ (sym (free-row w k (omega arith)) ∙ f .below k (omega arith)))
+
+-- ---- sent
+
+pub place-long : (m : Message) (ps : List Place) → length (place m ps) ≡ length ps
+unfolding place
+place-long m [] = refl
+place-long m (free ∷ ps) = refl
+place-long m (waiting x ∷ ps) = ap suc (place-long m ps)
+
+pub places-long : (ms : List Message) (ps : List Place) → length (placeAll ms ps) ≡ length ps
+unfolding placeAll
+places-long [] ps = refl
+places-long (m ∷ ms) ps = places-long ms (place m ps) ∙ place-long m ps
+
+pub places-append : (a b : List Message) (ps : List Place) → placeAll (a ++ b) ps ≡ placeAll b (placeAll a ps)
+unfolding placeAll
+places-append [] b ps = refl
+places-append (m ∷ a) b ps = places-append a b (place m ps)
+
+-- the copies of a sending to its receivers below n
+unfoldable pub copiesBelow : ℕ → Sending → ℕ → List Message
+copiesBelow from s n = map (message from (s .body)) (receiversBelow (s .receivers) n)
+
+pub all-copies : (from : ℕ) (s : Sending) → copies from s ≡ copiesBelow from s 12
+unfolding copies copiesBelow receiversBelow tab message
+all-copies from s = refl
+
+pub copies-length : (from : ℕ) (s : Sending) → length (copies from s) ≡ length (receiversBelow (s .receivers) 12)
+unfolding copiesBelow
+copies-length from s = ap length (all-copies from s) ∙ length-map (receiversBelow (s .receivers) 12) _
+
+map-append : {A B : Type 0} (f : A → B) (a b : List A) → map f (a ++ b) ≡ map f a ++ map f b
+map-append f [] b = refl
+map-append {B = B} f (x ∷ a) b = ap (λ (l : List B). f x ∷ l) (map-append f a b)
+
+module _ (m i : ℕ) where
+  pub receiver-more : bit m i ≡ true → receiversBelow m (i + 1) ≡ receiversBelow m i ++ (i ∷ [])
+  unfolding receiversBelow
+  receiver-more e = those-more (bit m) (λ k. k) i e
+
+  pub receiver-same : bit m i ≡ false → receiversBelow m (i + 1) ≡ receiversBelow m i
+  unfolding receiversBelow
+  receiver-same e = those-same (bit m) (λ k. k) i e
+
+  pub receiver-none : receiversBelow m 0 ≡ []
+  unfolding receiversBelow tab those
+  receiver-none = refl
+
+  -- counted
+  pub receiver-counted : length (receiversBelow m (i + 1)) ≡ length (receiversBelow m i) + (if bit m i then 1 else 0)
+  receiver-counted =
+      ⊎-elim (λ e. rw (receiver-more e, e) (length-append (receiversBelow m i) (i ∷ []))) (λ e. rw (receiver-same e, e) (omega arith)) (decided (bit m i))
+
+-- a buffer s₀ into which the copies below n are sent
+pub record Sent (s₀ : List ℕ) (from : ℕ) (x : Sending) (s : List ℕ) (n : ℕ) : Type 0 where
+  pub within : n ≤ 12
+  pub long : length s ≡ length s₀
+  pub is : (w : World) → length (w .places) ≡ 256 → s₀ ≡ image w → s ≡ image (withPlaces w (placeAll (copiesBelow from x n) (w .places)))
+
+module _ {s₀ : List ℕ} {from : ℕ} {x : Sending} where
+  pub sent-none : Sent s₀ from x s₀ 0
+  unfolding copiesBelow placeAll
+  sent-none = record { within = omega arith; long = refl; is = λ w l e. e ∙ rw (receiver-none (x .receivers) 0) }
+
+  pub sent-same : {s : List ℕ} {n : ℕ} → Sent s₀ from x s n → n < 12 → bit (x .receivers) n ≡ false → Sent s₀ from x s (n + 1)
+  unfolding copiesBelow
+  sent-same {s} {n} h b e = record { within = omega arith; long = h .long; is = λ w l q. h .is w l q ∙ rw (receiver-same (x .receivers) n e) }
+
+  pub sent-more : {s : List ℕ} {n : ℕ} (t : List ℕ) → Sent s₀ from x s n → n < 12 → bit (x .receivers) n ≡ true → length t ≡ length s
+      → ((w : World) → length (w .places) ≡ 256 → s ≡ image w → t ≡ image (withPlaces w (place (message from (x .body) n) (w .places)))) → Sent s₀ from x t (n + 1)
+  sent-more {s} {n} t h b e k f = record { within = omega arith; long = k ∙ h .long; is = go }
+    where
+      more : copiesBelow from x (n + 1) ≡ copiesBelow from x n ++ (message from (x .body) n ∷ [])
+      more = unfold copiesBelow in (rw (receiver-more (x .receivers) n e) (map-append (message from (x .body)) (receiversBelow (x .receivers) n) (n ∷ [])))
+
+      go : (w : World) → length (w .places) ≡ 256 → s₀ ≡ image w → t ≡ image (withPlaces w (placeAll (copiesBelow from x (n + 1)) (w .places)))
+      go w l q =
+          f (withPlaces w (placeAll (copiesBelow from x n) (w .places))) (places-long (copiesBelow from x n) (w .places) ∙ l) (h .is w l q)
+          ∙ rw (more, places-append (copiesBelow from x n) (message from (x .body) n ∷ []) (w .places)) (unfold placeAll in refl)
+
+  pub sent-all : {s : List ℕ} {n : ℕ} → Sent s₀ from x s n → 12 ≤ n
+      → (w : World) → length (w .places) ≡ 256 → s₀ ≡ image w → s ≡ image (withPlaces w (placeAll (copies from x) (w .places)))
+  sent-all {s} {n} h e w l q = let z : n ≡ 12 = omega (arith, h .within) in rw (all-copies from x, ← z) (h .is w l q)

@@ -1,0 +1,463 @@
+// Document 01, "The world" and "Steps": start and one step on a lent buffer. A step makes a plan by value, and only a plan that finds room is written:
+// so a refused step changes no byte.
+ghost use mathlib.Core.Path.{_≡_};
+ghost use mathlib.Core.Bool.{true};
+ghost use mathlib.Core.List.{List, []};
+ghost use Prim.Native.Nat.{ℕ, _≤_, _<_};
+ghost use lib.Dec.{ltb};
+ghost use Rattle.rules.specs.Sets.{if_then_else_};
+ghost use Rattle.rules.specs.Messages as rules;
+ghost use Rattle.rules.specs.State.{Relay, noRelay, noDesk, World, waiting, placeAt, startRelay, startDesk};
+ghost use Rattle.rules.specs.declared.Desk as code;
+ghost use Rattle.rules.specs.Steps as steps;
+ghost use Rattle.rules.specs.Image.{image, worldAt, goodBytes};
+ghost use Rattle.rules.specs.Lent as lent;
+ghost use Rattle.state.specs.Meaning.{relayOf, bodyOf, messageOf, eventOf};
+ghost use Rattle.state.specs.Plans.{planOf, deskPlanOf, planned};
+ghost use Rattle.world.specs.Answer.{lentOf, accepted};
+ghost use Rattle.world.specs.Narrow.{generatorOfBody, moveOfBody};
+ghost use Rattle.world.specs.Commits.{delivered, fewer, relayLeft, deskLeft, begun};
+use rules::Desk;
+use rules::Phase;
+use rules::Step;
+use stamps::Pair;
+use state::Body;
+use state::DeskPlan;
+use state::Event;
+use state::Head;
+use state::Message;
+use state::Plan;
+
+mod reads; // what a step looks up
+mod writes; // what it writes
+
+// "event": none, a view opened, a read or a write ended.
+pub enum Report {
+    Nothing,
+    Opened { relay: u8, view: u16 },
+    ReadDone { desk: u8, pair: Pair },
+    WriteDone { desk: u8, pair: Pair },
+}
+
+// A step's answer: its number, and what it reports.
+pub struct Answer {
+    pub number: u8,
+    pub report: Report,
+}
+
+// ---- answers
+
+// "All but 0 report event 0 with zero fields and change nothing."
+fn refuses(number: u8) -> Answer
+    ensures { λ r. ⌜ ((x : rules.Refusal) (b : List ℕ) → number ≡ rules.number x → lentOf r b ≡ lent.kept x b) ⌝ }
+{
+    Answer {
+        number: number,
+        report: Report::Nothing,
+    }
+}
+
+// Done: the event, and the relay or the desk that it is about.
+fn tells(event: Event, who: u8) -> Answer
+    ensures { λ r. ⌜ ((b : List ℕ) → lentOf r b ≡ accepted (steps.reports (eventOf event) who) b) ⌝ }
+{
+    let report = match event {
+        Event::Nothing => Report::Nothing,
+        Event::Opened(view) => Report::Opened {
+            relay: who,
+            view: view,
+        },
+        Event::ReadDone(pair) => Report::ReadDone {
+            desk: who,
+            pair: pair,
+        },
+        Event::WriteDone(pair) => Report::WriteDone {
+            desk: who,
+            pair: pair,
+        },
+    };
+    Answer {
+        number: 0,
+        report: report,
+    }
+}
+
+// ---- commits
+
+// What the relay s answers is refused, or done; p is the delivered place, 256 where there is none.
+fn relay_commits(w: &mut [u8], s: u8, p: usize, plan: Plan) -> Answer
+    requires { ⌜ (goodBytes (now w) ≡ true) × (s < 8) ⌝ }
+    ensures { λ r. ⌜ ((n : ℕ) (a : rules.Answer Relay) → planOf plan ≡ planned noRelay a → fewer 2 a ≡ true → delivered (worldAt (now (w .entry))) p ≡ true
+        → lentOf r (now (w .exit)) ≡ relayLeft (now (w .entry)) n p s a) ⌝ }
+{
+    let answer = plan.answer;
+    let part = plan.part;
+    let first = plan.first;
+    let second = plan.second;
+    let event = plan.event;
+    if answer != 0 {
+        return refuses(answer);
+    }
+    if !reads::has_room(w, p, first.receivers, second.receivers) {
+        return refuses(8);
+    }
+    if !reads::has_seats(w, s, part) {
+        return refuses(8);
+    }
+    writes::put_part(w, s, part);
+    writes::free(w, p);
+    writes::send(w, s, first);
+    writes::send(w, s, second);
+    tells(event, s)
+}
+
+// The same of the desk n.
+fn desk_commits(w: &mut [u8], n: u8, p: usize, plan: DeskPlan) -> Answer
+    requires { ⌜ (goodBytes (now w) ≡ true) × (n < 4) ⌝ }
+    ensures { λ r. ⌜ ((k : ℕ) (a : rules.Answer code.Desk) → deskPlanOf plan ≡ planned noDesk a → fewer 1 a ≡ true → delivered (worldAt (now (w .entry))) p ≡ true
+        → lentOf r (now (w .exit)) ≡ deskLeft (now (w .entry)) k p n a) ⌝ }
+{
+    let answer = plan.answer;
+    let desk = plan.desk;
+    let first = plan.first;
+    let event = plan.event;
+    if answer != 0 {
+        return refuses(answer);
+    }
+    if !reads::has_room(w, p, first.receivers, 0) {
+        return refuses(8);
+    }
+    image::put_desk(w, 43520 + n as usize * 64, desk);
+    writes::free(w, p);
+    writes::send(w, 8 + n, first);
+    tells(event, n)
+}
+
+// ---- steps of a relay
+
+fn join(w: &mut [u8], s: u8) -> Answer
+    requires { ⌜ goodBytes (now w) ≡ true ⌝ }
+    ensures { λ r. ⌜ lentOf r (now (w .exit)) ≡ lent.left (now (w .entry)) (steps.acts (worldAt (now (w .entry))) (if ltb s 8 then steps.join s else steps.bad)) ⌝ }
+{
+    if 8 <= s {
+        return refuses(2);
+    }
+    if !reads::alive_at(w, s) {
+        return refuses(4);
+    }
+    let part = reads::part_at(w, s, 0, 0, 0);
+    let plan = relay::join_asked(s, part);
+    relay_commits(w, s, 256, plan)
+}
+
+fn leave(w: &mut [u8], s: u8) -> Answer
+    requires { ⌜ goodBytes (now w) ≡ true ⌝ }
+    ensures { λ r. ⌜ lentOf r (now (w .exit)) ≡ lent.left (now (w .entry)) (steps.acts (worldAt (now (w .entry))) (if ltb s 8 then steps.leave s else steps.bad)) ⌝ }
+{
+    if 8 <= s {
+        return refuses(2);
+    }
+    if !reads::alive_at(w, s) {
+        return refuses(4);
+    }
+    let part = reads::part_at(w, s, 0, 0, 0);
+    let plan = relay::leave_asked(s, part);
+    relay_commits(w, s, 256, plan)
+}
+
+fn timer(w: &mut [u8], s: u8) -> Answer
+    requires { ⌜ goodBytes (now w) ≡ true ⌝ }
+    ensures { λ r. ⌜ lentOf r (now (w .exit)) ≡ lent.left (now (w .entry)) (steps.acts (worldAt (now (w .entry))) (if ltb s 8 then steps.timer s else steps.bad)) ⌝ }
+{
+    if 8 <= s {
+        return refuses(2);
+    }
+    if !reads::alive_at(w, s) {
+        return refuses(4);
+    }
+    let view = rows::read_u16(w, s as usize * 5440 + 3);
+    let part = reads::part_at(w, s, view, 0, 0);
+    let plan = relay::timer_rang(part);
+    relay_commits(w, s, 256, plan)
+}
+
+// ---- steps of a desk
+
+fn read(w: &mut [u8], n: u8) -> Answer
+    requires { ⌜ goodBytes (now w) ≡ true ⌝ }
+    ensures { λ r. ⌜ lentOf r (now (w .exit)) ≡ lent.left (now (w .entry)) (steps.acts (worldAt (now (w .entry))) (if ltb n 4 then steps.read n else steps.bad)) ⌝ }
+{
+    if 4 <= n {
+        return refuses(2);
+    }
+    if !reads::alive_at(w, 8 + n) {
+        return refuses(4);
+    }
+    let desk = image::desk_at(w, 43520 + n as usize * 64);
+    let plan = desk::read_asked(desk);
+    desk_commits(w, n, 256, plan)
+}
+
+fn write(w: &mut [u8], n: u8, x: u32) -> Answer
+    requires { ⌜ goodBytes (now w) ≡ true ⌝ }
+    ensures { λ r. ⌜ lentOf r (now (w .exit)) ≡ lent.left (now (w .entry)) (steps.acts (worldAt (now (w .entry))) (if ltb n 4 then steps.write n x else steps.bad)) ⌝ }
+{
+    if 4 <= n {
+        return refuses(2);
+    }
+    if !reads::alive_at(w, 8 + n) {
+        return refuses(4);
+    }
+    let desk = image::desk_at(w, 43520 + n as usize * 64);
+    let plan = desk::write_asked(desk, x);
+    desk_commits(w, n, 256, plan)
+}
+
+// ---- delivery
+
+// Which generator, and which transfer, a message is about; 0 where none.
+fn generator_of(b: Body) -> u16
+    ensures { λ r. ⌜ r ≡ generatorOfBody (bodyOf b) ⌝ }
+{
+    if b.kind == 3 {
+        return b.first;
+    }
+    if b.kind == 4 {
+        return b.first;
+    }
+    if b.kind == 5 {
+        return b.second;
+    }
+    if b.kind == 6 {
+        return b.second;
+    }
+    0
+}
+
+fn old_of(b: Body) -> u16
+    ensures { λ r. ⌜ r ≡ moveOfBody (bodyOf b) .old ⌝ }
+{
+    if b.kind == 5 {
+        return b.first;
+    }
+    if b.kind == 6 {
+        return b.first;
+    }
+    0
+}
+
+fn new_of(b: Body) -> u16
+    ensures { λ r. ⌜ r ≡ moveOfBody (bodyOf b) .new ⌝ }
+{
+    if b.kind == 5 {
+        return b.second;
+    }
+    if b.kind == 6 {
+        return b.second;
+    }
+    0
+}
+
+fn to_relay(w: &mut [u8], p: usize, m: Message) -> Answer
+    requires { ⌜ (goodBytes (now w) ≡ true) × ((p < 256) × ((placeAt (worldAt (now w)) p ≡ waiting (messageOf m)) × (m .to < 8))) ⌝ }
+    ensures { λ r. ⌜ lentOf r (now (w .exit)) ≡ lent.left (now (w .entry)) (steps.delivers (steps.freed (worldAt (now (w .entry))) p) (messageOf m)) ⌝ }
+{
+    let to = m.to;
+    let from = m.from;
+    let body = m.body;
+    let part = reads::part_at(w, to, generator_of(body), old_of(body), new_of(body));
+    let plan = relay::hears(to, part, from, body);
+    relay_commits(w, to, p, plan)
+}
+
+fn to_desk(w: &mut [u8], p: usize, m: Message) -> Answer
+    requires { ⌜ (goodBytes (now w) ≡ true) × ((p < 256) × ((placeAt (worldAt (now w)) p ≡ waiting (messageOf m)) × ((8 ≤ m .to) × (m .to < 12)))) ⌝ }
+    ensures { λ r. ⌜ lentOf r (now (w .exit)) ≡ lent.left (now (w .entry)) (steps.delivers (steps.freed (worldAt (now (w .entry))) p) (messageOf m)) ⌝ }
+{
+    let n = m.to - 8;
+    let from = m.from;
+    let body = m.body;
+    let desk = image::desk_at(w, 43520 + n as usize * 64);
+    let plan = desk::hears(n, desk, from, body);
+    desk_commits(w, n, p, plan)
+}
+
+fn deliver(w: &mut [u8], id: u8) -> Answer
+    requires { ⌜ goodBytes (now w) ≡ true ⌝ }
+    ensures { λ r. ⌜ lentOf r (now (w .exit)) ≡ lent.left (now (w .entry)) (steps.acts (worldAt (now (w .entry))) (steps.deliver id)) ⌝ }
+{
+    let p = id as usize;
+    if reads::is_free(w, p) {
+        return refuses(3);
+    }
+    let m = image::message_at(w, 43776 + p * 80);
+    if !reads::alive_at(w, m.to) {
+        return refuses(4);
+    }
+    if m.to < 8 {
+        return to_relay(w, p, m);
+    }
+    to_desk(w, p, m)
+}
+
+// "DROP only frees"
+fn drop_place(w: &mut [u8], id: u8) -> Answer
+    requires { ⌜ goodBytes (now w) ≡ true ⌝ }
+    ensures { λ r. ⌜ lentOf r (now (w .exit)) ≡ lent.left (now (w .entry)) (steps.acts (worldAt (now (w .entry))) (steps.drop id)) ⌝ }
+{
+    let p = id as usize;
+    if reads::is_free(w, p) {
+        return refuses(3);
+    }
+    writes::free(w, p);
+    tells(Event::Nothing, 0)
+}
+
+// "CRASH only ends alive"
+fn crash(w: &mut [u8], who: u8) -> Answer
+    requires { ⌜ goodBytes (now w) ≡ true ⌝ }
+    ensures { λ r. ⌜ lentOf r (now (w .exit)) ≡ lent.left (now (w .entry)) (steps.acts (worldAt (now (w .entry))) (if ltb who 12 then steps.crash who else steps.bad)) ⌝ }
+{
+    if 12 <= who {
+        return refuses(2);
+    }
+    if !reads::alive_at(w, who) {
+        return refuses(4);
+    }
+    let i = who as usize;
+    if i < 8 {
+        rows::put_byte(w, i * 5440, 0);
+        return tells(Event::Nothing, 0);
+    }
+    rows::put_byte(w, 43520 + (i - 8) * 64, 0);
+    tells(Event::Nothing, 0)
+}
+
+// ---- one step
+
+// A step of a good world.
+fn step_good(w: &mut [u8], k: Step) -> Answer
+    requires { ⌜ goodBytes (now w) ≡ true ⌝ }
+    ensures { λ r. ⌜ lentOf r (now (w .exit)) ≡ lent.lentStep (now (w .entry)) k ⌝ }
+{
+    let kind = k.kind;
+    let id = k.id;
+    if kind == 5 {
+        return write(w, id, k.value);
+    }
+    if k.value != 0 {
+        return refuses(2);
+    }
+    if kind == 1 {
+        return join(w, id);
+    }
+    if kind == 2 {
+        return leave(w, id);
+    }
+    if kind == 3 {
+        return timer(w, id);
+    }
+    if kind == 4 {
+        return read(w, id);
+    }
+    if kind == 6 {
+        return deliver(w, id);
+    }
+    if kind == 7 {
+        return drop_place(w, id);
+    }
+    if kind == 8 {
+        return crash(w, id);
+    }
+    refuses(2)
+}
+
+// Any step on any buffer. "BAD WORLD: world not good"
+pub fn step(w: &mut [u8], k: Step) -> Answer
+    ensures { λ r. ⌜ lentOf r (now (w .exit)) ≡ lent.lentStep (now (w .entry)) k ⌝ }
+{
+    if !good::is_good(w) {
+        return refuses(1);
+    }
+    step_good(w, k)
+}
+
+// ---- the start
+
+// "its relays are entered and active, the others have view 0 and aren't"
+fn start_head(mask: u8, s: u8) -> Head
+    requires { ⌜ s < 8 ⌝ }
+    ensures { λ r. ⌜ relayOf r [] [] ≡ startRelay mask s ⌝ }
+{
+    let known = mask as u16;
+    let holds = stamps::fresh();
+    if (mask >> s) % 2 == 1 {
+        return Head {
+            alive: true,
+            entered: true,
+            active: true,
+            view: known,
+            known: known,
+            pending: 0,
+            holds: holds,
+        };
+    }
+    Head {
+        alive: true,
+        entered: false,
+        active: false,
+        view: 0,
+        known: known,
+        pending: 0,
+        holds: holds,
+    }
+}
+
+fn put_relays(w: &mut [u8], mask: u8)
+    ensures { λ _. ⌜ (now (w .entry) ≡ image (begun mask 0 0) → now (w .exit) ≡ image (begun mask 8 0)) ⌝ }
+{
+    for s in 0..8u8 {
+        let head = start_head(mask, s);
+        image::put_head(w, s as usize * 5440, head);
+    }
+}
+
+fn start_desk(mask: u8) -> Desk
+    ensures { λ r. ⌜ r ≡ startDesk mask ⌝ }
+{
+    Desk {
+        alive: true,
+        view: mask as u16,
+        phase: Phase::Idle,
+        tries: 0,
+        holds: stamps::fresh(),
+        replied: 0,
+        best: stamps::fresh(),
+        agreed: false,
+    }
+}
+
+fn put_desks(w: &mut [u8], mask: u8)
+    ensures { λ _. ⌜ (now (w .entry) ≡ image (begun mask 8 0) → now (w .exit) ≡ image (begun mask 8 4)) ⌝ }
+{
+    let desk = start_desk(mask);
+    for n in 0..4usize {
+        image::put_desk(w, 43520 + n * 64, desk);
+    }
+}
+
+// "Start: a mask 1..255 of relays."
+pub fn start(w: &mut [u8], mask: u8) -> Answer
+    ensures { λ r. ⌜ lentOf r (now (w .exit)) ≡ lent.lentStart (now (w .entry)) mask ⌝ }
+{
+    if w.len() != 65536 {
+        return refuses(1);
+    }
+    if mask == 0 {
+        return refuses(2);
+    }
+    rows::clear(w, 0, 65536);
+    put_relays(w, mask);
+    put_desks(w, mask);
+    tells(Event::Nothing, 0)
+}

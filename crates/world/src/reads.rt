@@ -1,0 +1,219 @@
+// What a step looks up in the lent buffer.
+ghost use mathlib.Core.Path.{_≡_};
+ghost use mathlib.Core.Bool.{true, _&&_, _||_, not};
+ghost use Prim.Native.Nat.{_+_, _*_, _≤_, _<_};
+ghost use lib.Dec.{eqb, leb, ltb};
+ghost use lib.ListN.{length};
+ghost use Rattle.rows.specs.Bytes.{u16At};
+ghost use Rattle.rules.specs.Sets.{if_then_else_};
+ghost use Rattle.rules.specs.State.{relayAt};
+ghost use Rattle.rules.specs.Steps.{aliveIn};
+ghost use Rattle.rules.specs.Image.{worldAt, goodBytes, generatorAt, transferAt};
+ghost use Rattle.state.specs.Meaning.{partOf, generatorOf, transferOf};
+ghost use Rattle.world.specs.Narrow.{move, narrow, widened};
+ghost use Rattle.world.specs.Commits.{First, freeRow, freeRows, endsView, endsMove, receiversBelow};
+use state::Generator;
+use state::Part;
+use state::Transfer;
+
+// ---- places
+
+pub(crate) fn is_free(w: &[u8], p: usize) -> bool
+    requires { ⌜ p < 256 ⌝ }
+    ensures { λ r. ⌜ r ≡ freeRow (now (w .entry)) p ⌝ }
+{
+    rows::byte_at(w, 43776 + p * 80) == 0
+}
+
+pub(crate) fn free_places(w: &[u8]) -> usize
+    ensures { λ r. ⌜ (r ≡ freeRows (now (w .entry)) 256) × (r ≤ 256) ⌝ }
+{
+    let mut n = 0;
+    for p in 0..256usize {
+        n += is_free(w, p) as usize;
+    }
+    n
+}
+
+// "the lowest free place", or 256.
+pub(crate) fn first_free(w: &[u8]) -> usize
+    ensures { λ r. ⌜ First 256 (freeRow (now (w .entry))) r ⌝ }
+{
+    for low in 0..256usize {
+        if is_free(w, low) {
+            return low;
+        }
+    }
+    256
+}
+
+// How many receivers there are in a set.
+pub(crate) fn receivers(m: u16) -> usize
+    ensures { λ r. ⌜ (r ≡ length (receiversBelow m 12)) × (r ≤ 12) ⌝ }
+{
+    let mut r = 0;
+    for n in 0..12u8 {
+        r += ((m >> n) % 2 == 1) as usize;
+    }
+    r
+}
+
+// A delivered place is one more; 256 is none.
+fn delivered(p: usize) -> usize
+    ensures { λ r. ⌜ r ≡ (if ltb p 256 then 1 else 0) ⌝ }
+{
+    if p < 256 {
+        return 1;
+    }
+    0
+}
+
+// "NO ROOM: the step needs more messages [..] than are free at its begin, its own delivered place counted as free"
+pub(crate) fn has_room(w: &[u8], p: usize, first: u16, second: u16) -> bool
+    ensures { λ r. ⌜ r ≡ leb (length (receiversBelow first 12) + length (receiversBelow second 12)) (freeRows (now (w .entry)) 256 + (if ltb p 256 then 1 else 0)) ⌝ }
+{
+    receivers(first) + receivers(second) <= free_places(w) + delivered(p)
+}
+
+// ---- relays and desks
+
+// 0..7 relays, 8..11 desks.
+pub(crate) fn alive_at(w: &[u8], who: u8) -> bool
+    ensures { λ r. ⌜ (who < 12 → r ≡ aliveIn (worldAt (now (w .entry))) who) ⌝ }
+{
+    let i = who as usize;
+    if i < 8 {
+        return rows::byte_at(w, i * 5440) == 1;
+    }
+    rows::byte_at(w, 43520 + (i - 8) * 64) == 1
+}
+
+// The row of a generator at `at` is not filled, or is for v.
+fn ends_view(w: &[u8], at: usize, v: u16) -> bool
+    ensures { λ r. ⌜ r ≡ (eqb (u16At (now (w .entry)) at) 0 || eqb (u16At (now (w .entry)) at) v) ⌝ }
+{
+    let x = rows::read_u16(w, at);
+    if x == 0 {
+        return true;
+    }
+    x == v
+}
+
+// The seat of the generator for v among the rows from `at` on: its row, else the first that is not filled, else 8.
+pub(crate) fn generator_seat(w: &[u8], at: usize, v: u16) -> usize
+    requires { ⌜ at < 65536 ⌝ }
+    ensures { λ r. ⌜ First 8 (endsView (now (w .entry)) at v) r ⌝ }
+{
+    for i in 0..8usize {
+        if ends_view(w, at + i * 592, v) {
+            return i;
+        }
+    }
+    8
+}
+
+fn ends_move(w: &[u8], at: usize, o: u16, n: u16) -> bool
+    requires { ⌜ at < 131072 ⌝ }
+    ensures { λ r. ⌜ r ≡ (eqb (u16At (now (w .entry)) (at + 2)) 0 || (eqb (u16At (now (w .entry)) at) o && eqb (u16At (now (w .entry)) (at + 2)) n)) ⌝ }
+{
+    let new = rows::read_u16(w, at + 2);
+    if new == 0 {
+        return true;
+    }
+    if rows::read_u16(w, at) != o {
+        return false;
+    }
+    new == n
+}
+
+// The seat of the transfer from o to n, likewise.
+pub(crate) fn transfer_seat(w: &[u8], at: usize, o: u16, n: u16) -> usize
+    requires { ⌜ at < 65536 ⌝ }
+    ensures { λ r. ⌜ First 8 (endsMove (now (w .entry)) at o n) r ⌝ }
+{
+    for i in 0..8usize {
+        if ends_move(w, at + i * 80, o, n) {
+            return i;
+        }
+    }
+    8
+}
+
+// Whether the seat i is one of the eight, and its row is filled: the number at `at` is not 0.
+fn is_filled(w: &[u8], i: usize, at: usize) -> bool
+    ensures { λ r. ⌜ r ≡ (ltb i 8 && not (eqb (u16At (now (w .entry)) at) 0)) ⌝ }
+{
+    if 8 <= i {
+        return false;
+    }
+    rows::read_u16(w, at) != 0
+}
+
+// The generator at `at`, if it is there.
+fn generator_in(w: &[u8], at: usize, there: bool) -> Generator
+    ensures { λ r. ⌜ (there ≡ true → generatorOf r ≡ generatorAt (now (w .entry)) at) ⌝ }
+{
+    if there {
+        return image::generator_at(w, at);
+    }
+    generator::fresh(0)
+}
+
+// The part of the relay s that shows the generator for v and the transfer from o to n.
+pub(crate) fn part_at(w: &[u8], s: u8, v: u16, o: u16, n: u16) -> Part
+    requires { ⌜ (goodBytes (now w) ≡ true) × (s < 8) ⌝ }
+    ensures { λ r. ⌜ partOf r ≡ narrow (relayAt (worldAt (now (w .entry))) s) v (move o n) ⌝ }
+{
+    let at = s as usize * 5440;
+    let head = image::head_at(w, at);
+    let i = generator_seat(w, at + 64, v);
+    let generates = is_filled(w, i, at + 64 + i * 592);
+    let generator = generator_in(w, at + 64 + i * 592, generates);
+    let j = transfer_seat(w, at + 4800, o, n);
+    let transfers = is_filled(w, j, at + 4800 + j * 80 + 2);
+    let transfer = image::transfer_at(w, at + 4800 + j * 80);
+    Part {
+        head: head,
+        generates: generates,
+        generator: generator,
+        transfers: transfers,
+        transfer: transfer,
+    }
+}
+
+// ---- the seats of what a part has become
+
+fn generator_seated(w: &[u8], s: u8, part: Part) -> bool
+    requires { ⌜ (goodBytes (now w) ≡ true) × (s < 8) ⌝ }
+    ensures { λ r. ⌜ r ≡ leb (length (widened (relayAt (worldAt (now (w .entry))) s) (partOf part) .generators)) 8 ⌝ }
+{
+    if !part.generates {
+        return true;
+    }
+    generator_seat(w, s as usize * 5440 + 64, part.generator.view) < 8
+}
+
+fn transfer_seated(w: &[u8], s: u8, part: Part) -> bool
+    requires { ⌜ (goodBytes (now w) ≡ true) × (s < 8) ⌝ }
+    ensures { λ r. ⌜ r ≡ leb (length (widened (relayAt (worldAt (now (w .entry))) s) (partOf part) .transfers)) 8 ⌝ }
+{
+    let at = s as usize * 5440;
+    if part.head.view != rows::read_u16(w, at + 3) {
+        return true;
+    }
+    if !part.transfers {
+        return true;
+    }
+    transfer_seat(w, at + 4800, part.transfer.old, part.transfer.new) < 8
+}
+
+// "NO ROOM: the step needs more [..] generators or transfers than are free at its begin"
+pub(crate) fn has_seats(w: &[u8], s: u8, part: Part) -> bool
+    requires { ⌜ (goodBytes (now w) ≡ true) × (s < 8) ⌝ }
+    ensures { λ r. ⌜ r ≡ (leb (length (widened (relayAt (worldAt (now (w .entry))) s) (partOf part) .generators)) 8 && leb (length (widened (relayAt (worldAt (now (w .entry))) s) (partOf part) .transfers)) 8) ⌝ }
+{
+    if !generator_seated(w, s, part) {
+        return false;
+    }
+    transfer_seated(w, s, part)
+}

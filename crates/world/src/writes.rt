@@ -1,0 +1,162 @@
+// What a step writes into the lent buffer.
+ghost use mathlib.Core.Path.{_≡_};
+ghost use mathlib.Core.Bool.{true};
+ghost use mathlib.Core.List.{map};
+ghost use Prim.Native.Nat.{ℕ, _<_};
+ghost use lib.Dec.{leb};
+ghost use lib.ListN.{length, getD};
+ghost use Rattle.rows.specs.Bytes.{placed, table};
+ghost use Rattle.rules.specs.Messages.{copies};
+ghost use Rattle.rules.specs.State.{World, withPlaces, relayAt, withRelay, withTransfers};
+ghost use Rattle.rules.specs.Sending as rules;
+ghost use Rattle.rules.specs.Relays.{freshTransfer};
+ghost use Rattle.rules.specs.Image.{transferBytes, image, worldAt, goodBytes};
+ghost use Rattle.state.specs.Meaning.{transferOf, partOf, bodyOf, sendingOf};
+ghost use Rattle.world.specs.Narrow.{widened};
+ghost use Rattle.world.specs.Commits.{freedAt, keptRows, message};
+use state::Body;
+use state::Message;
+use state::Part;
+use state::Sending;
+use state::Transfer;
+
+// ---- places
+
+// "DELIVER frees its place first"; 256 is none.
+pub(crate) fn free(w: &mut [u8], p: usize)
+    ensures { λ _. ⌜ ((W : World) → length (W .places) ≡ 256 → now (w .entry) ≡ image W → now (w .exit) ≡ image (freedAt W p)) ⌝ }
+{
+    if 256 <= p {
+        return;
+    }
+    rows::clear(w, 43776 + p * 80, 80);
+}
+
+// "A new message takes the lowest free place"
+fn place(w: &mut [u8], from: u8, to: u8, body: Body)
+    ensures { λ _. ⌜ ((W : World) → length (W .places) ≡ 256 → now (w .entry) ≡ image W
+        → now (w .exit) ≡ image (withPlaces W (rules.place (message from (bodyOf body) to) (W .places)))) ⌝ }
+{
+    let p = super::reads::first_free(w);
+    if 256 <= p {
+        return;
+    }
+    let plain = messages::plain(body);
+    let m = Message {
+        from: from,
+        to: to,
+        body: plain,
+    };
+    image::put_message(w, 43776 + p * 80, m);
+}
+
+// "each to its receivers in ascending order"
+pub(crate) fn send(w: &mut [u8], from: u8, x: Sending)
+    ensures { λ _. ⌜ ((W : World) → length (W .places) ≡ 256 → now (w .entry) ≡ image W
+        → now (w .exit) ≡ image (withPlaces W (rules.placeAll (copies from (sendingOf x)) (W .places)))) ⌝ }
+{
+    let m = x.receivers;
+    let body = x.body;
+    for n in 0..12u8 {
+        if (m >> n) % 2 == 1 {
+            place(w, from, n, body);
+        }
+    }
+}
+
+// ---- transfers
+
+// Eight rows: transfers, and then blank ones.
+struct Kept {
+    of: [Transfer; 8],
+}
+
+fn blank() -> Transfer
+    ensures { λ r. ⌜ transferOf r ≡ freshTransfer 0 0 ⌝ }
+{
+    Transfer {
+        old: 0,
+        new: 0,
+        sequence: views::empty(),
+        senders: 0,
+        best: stamps::fresh(),
+        gathered: 0,
+    }
+}
+
+// "transfers whose new view does not strictly include w are freed, and the rest move down in their order"
+fn kept_transfers(w: &[u8], at: usize, v: u16) -> Kept
+    requires { ⌜ at < 65536 ⌝ }
+    ensures { λ r. ⌜ ((k : ℕ) → k < 8 → getD (map transferOf (r .of)) k (freshTransfer 0 0) ≡ getD (keptRows (now (w .entry)) at v 8) k (freshTransfer 0 0)) ⌝ }
+{
+    let mut of = [blank(); 8];
+    let mut n = 0;
+    for i in 0..8usize {
+        let t = image::transfer_at(w, at + i * 80);
+        if views::inside(v, t.new) {
+            of[n] = t;
+            n += 1;
+        }
+    }
+    Kept { of }
+}
+
+fn put_kept(w: &mut [u8], at: usize, kept: Kept)
+    ensures { λ _. ⌜ now (w .exit) ≡ placed (now (w .entry)) at (table transferBytes (freshTransfer 0 0) 8 (map transferOf (kept .of))) ⌝ }
+{
+    if !rows::has_room(w.len(), at, 640) {
+        return;
+    }
+    let of = kept.of;
+    for i in 0..8usize {
+        let t = of[i];
+        image::put_transfer(w, at + i * 80, t);
+    }
+}
+
+fn put_transfers(w: &mut [u8], s: u8, part: Part)
+    requires { ⌜ (goodBytes (now w) ≡ true) × (s < 8) ⌝ }
+    ensures { λ _. ⌜ (leb (length (widened (relayAt (worldAt (now (w .entry))) s) (partOf part) .transfers)) 8 ≡ true
+        → now (w .exit) ≡ image (withRelay (worldAt (now (w .entry))) s (withTransfers (relayAt (worldAt (now (w .entry))) s) (widened (relayAt (worldAt (now (w .entry))) s) (partOf part) .transfers)))) ⌝ }
+{
+    let at = s as usize * 5440;
+    let view = part.head.view;
+    if view != rows::read_u16(w, at + 3) {
+        let kept = kept_transfers(w, at + 4800, view);
+        put_kept(w, at + 4800, kept);
+        return;
+    }
+    if !part.transfers {
+        return;
+    }
+    let t = part.transfer;
+    let i = super::reads::transfer_seat(w, at + 4800, t.old, t.new);
+    if 8 <= i {
+        return;
+    }
+    image::put_transfer(w, at + 4800 + i * 80, t);
+}
+
+// ---- a relay
+
+// The relay s, of whose part a rule has made this one.
+pub(crate) fn put_part(w: &mut [u8], s: u8, part: Part)
+    requires { ⌜ (goodBytes (now w) ≡ true) × (s < 8) ⌝ }
+    ensures { λ _. ⌜ (leb (length (widened (relayAt (worldAt (now (w .entry))) s) (partOf part) .generators)) 8 ≡ true
+        → leb (length (widened (relayAt (worldAt (now (w .entry))) s) (partOf part) .transfers)) 8 ≡ true
+        → now (w .exit) ≡ image (withRelay (worldAt (now (w .entry))) s (widened (relayAt (worldAt (now (w .entry))) s) (partOf part)))) ⌝ }
+{
+    let at = s as usize * 5440;
+    let head = part.head;
+    let g = part.generator;
+    let i = super::reads::generator_seat(w, at + 64, g.view);
+    put_transfers(w, s, part);
+    image::put_head(w, at, head);
+    if !part.generates {
+        return;
+    }
+    if 8 <= i {
+        return;
+    }
+    image::put_generator(w, at + 64 + i * 592, g);
+}
