@@ -1,0 +1,100 @@
+// The engine for C and Rust: byte slices and numbers only. A slice passes as a pointer and then a length.
+ghost use mathlib.Core.Path.{_≡_};
+ghost use Rattle.rows.specs.Bytes.{placed};
+ghost use Rattle.rules.specs.Runs.{fields};
+ghost use Rattle.rules.specs.Lent.{lentStart, lentStep};
+ghost use Rattle.world.specs.Answer.{reportOf};
+ghost use Rattle.engine.specs.Told.{goodNumber, listOf, toldBytes, toldOf};
+use rules::Step;
+use stamps::Pair;
+use world::Report;
+
+// "event, who, stamp count, stamp desk, and value (events 2, 3) or view (event 1), zeros where none"
+pub struct Columns {
+    pub event: u8,
+    pub who: u8,
+    pub count: u16,
+    pub desk: u8,
+    pub last: u32,
+}
+
+fn ended(event: u8, who: u8, pair: Pair) -> Columns
+    ensures { λ r. ⌜ r ≡ record { event = event; who = who; count = pair .stamp .count; desk = pair .stamp .desk; last = pair .value } ⌝ }
+{
+    Columns {
+        event: event,
+        who: who,
+        count: pair.stamp.count,
+        desk: pair.stamp.desk,
+        last: pair.value,
+    }
+}
+
+fn reported(report: Report) -> Columns
+    ensures { λ r. ⌜ listOf r ≡ fields (reportOf report .event) (reportOf report .who) ⌝ }
+{
+    match report {
+        Report::Nothing => Columns {
+            event: 0,
+            who: 0,
+            count: 0,
+            desk: 0,
+            last: 0,
+        },
+        Report::Opened { relay, view } => Columns {
+            event: 1,
+            who: relay,
+            count: 0,
+            desk: 0,
+            last: view as u32,
+        },
+        Report::ReadDone { desk, pair } => ended(2, desk, pair),
+        Report::WriteDone { desk, pair } => ended(3, desk, pair),
+    }
+}
+
+fn put_columns(told: &mut [u8], c: Columns)
+    ensures { λ _. ⌜ now (told .exit) ≡ placed (now (told .entry)) 0 (toldBytes (listOf c)) ⌝ }
+{
+    if !rows::has_room(told.len(), 0, 9) {
+        return;
+    }
+    rows::put_byte(told, 0, c.event);
+    rows::put_byte(told, 1, c.who);
+    rows::put_u16(told, 2, c.count);
+    rows::put_byte(told, 4, c.desk);
+    rows::put_u32(told, 5, c.last);
+}
+
+// 1 for a good world, 0 for any other bytes.
+#[no_mangle]
+pub extern "C" fn world_good(w: &[u8]) -> u8
+    ensures { λ r. ⌜ r ≡ goodNumber (now (w .entry)) ⌝ }
+{
+    if good::is_good(w) {
+        return 1;
+    }
+    0
+}
+
+#[no_mangle]
+pub extern "C" fn world_start(w: &mut [u8], mask: u8) -> u8
+    ensures answer { λ r. ⌜ r ≡ lentStart (now (w .entry)) mask .answer ⌝ }
+    ensures buffer { λ _. ⌜ now (w .exit) ≡ lentStart (now (w .entry)) mask .buffer ⌝ }
+{
+    world::start(w, mask).number
+}
+
+// The columns go into the first nine bytes of `told`; where it is shorter, nowhere.
+#[no_mangle]
+pub extern "C" fn world_step(w: &mut [u8], kind: u8, id: u8, value: u32, told: &mut [u8]) -> u8
+    ensures answer { λ r. ⌜ r ≡ lentStep (now (w .entry)) (record { kind = kind; id = id; value = value }) .answer ⌝ }
+    ensures buffer { λ _. ⌜ now (w .exit) ≡ lentStep (now (w .entry)) (record { kind = kind; id = id; value = value }) .buffer ⌝ }
+    ensures columns { λ _. ⌜ now (told .exit) ≡ placed (now (told .entry)) 0 (toldBytes (toldOf (lentStep (now (w .entry)) (record { kind = kind; id = id; value = value })))) ⌝ }
+{
+    let step = Step { kind, id, value };
+    let answer = world::step(w, step);
+    let report = answer.report;
+    put_columns(told, reported(report));
+    answer.number
+}
