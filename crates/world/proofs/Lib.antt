@@ -14,3 +14,4 @@ pub mod Put
 pub mod Commit
 pub mod Routes
 pub mod Begun
+pub mod Keeps

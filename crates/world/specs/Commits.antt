@@ -39,7 +39,7 @@ endsView l i v k = eqb (u16At l (i + k * 592)) 0 || eqb (u16At l (i + k * 592)) 
 unfoldable pub endsMove : List ℕ → ℕ → ℕ → ℕ → ℕ → Bool
 endsMove l i o n k = eqb (u16At l (i + k * 80 + 2)) 0 || (eqb (u16At l (i + k * 80)) o && eqb (u16At l (i + k * 80 + 2)) n)
 
--- of the eight transfer rows from i on, those that stay when v is entered
+-- of the first n transfer rows from i on, those that stay when v is entered
 unfoldable pub keptRows : List ℕ → ℕ → ℕ → ℕ → List Transfer
 keptRows l i v n = those (λ t. inside v (t .new)) (tab n (λ k. transferAt l (i + k * 80)))
 

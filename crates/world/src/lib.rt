@@ -7,7 +7,7 @@ ghost use Prim.Native.Nat.{ℕ, _≤_, _<_};
 ghost use lib.Dec.{ltb};
 ghost use Rattle.rules.specs.Sets.{if_then_else_};
 ghost use Rattle.rules.specs.Messages as rules;
-ghost use Rattle.rules.specs.State.{Relay, noRelay, noDesk, World, waiting, placeAt, startRelay, startDesk};
+ghost use Rattle.rules.specs.State.{Relay, noRelay, noDesk, waiting, placeAt, startRelay, startDesk};
 ghost use Rattle.rules.specs.declared.Desk as code;
 ghost use Rattle.rules.specs.Steps as steps;
 ghost use Rattle.rules.specs.Image.{image, worldAt, goodBytes};

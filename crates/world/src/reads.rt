@@ -8,13 +8,12 @@ ghost use Rattle.rows.specs.Bytes.{u16At};
 ghost use Rattle.rules.specs.Sets.{if_then_else_};
 ghost use Rattle.rules.specs.State.{relayAt};
 ghost use Rattle.rules.specs.Steps.{aliveIn};
-ghost use Rattle.rules.specs.Image.{worldAt, goodBytes, generatorAt, transferAt};
-ghost use Rattle.state.specs.Meaning.{partOf, generatorOf, transferOf};
+ghost use Rattle.rules.specs.Image.{worldAt, goodBytes, generatorAt};
+ghost use Rattle.state.specs.Meaning.{partOf, generatorOf};
 ghost use Rattle.world.specs.Narrow.{move, narrow, widened};
 ghost use Rattle.world.specs.Commits.{First, freeRow, freeRows, endsView, endsMove, receiversBelow};
 use state::Generator;
 use state::Part;
-use state::Transfer;
 
 // ---- places
 

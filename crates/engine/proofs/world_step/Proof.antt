@@ -17,10 +17,13 @@ unfolding lentOf toldOf
 returns c =
     let step = c .before .before .before .before .before .before .before in
     let e = step .step .ensures in
-    let told = c .before .before .before .reported .ensures ∙ ap (λ (r : Report). fields (r .event) (r .who)) (ap (λ (l : Lent). l .report) e) in
-    (ap (λ (l : Lent). l .answer) e,
-    (ap (λ (l : Lent). l .buffer) e,
-    c .before .before .put-columns .ensures ∙ ap (λ (x : List ℕ). placed (step .before .before .before .before .args .told .now) 0 (toldBytes x)) told))
+    let told = c .before .before .before .reported .ensures ∙ ap (λ (r : Report). fields (r .event) (r .who)) (ap (λ (l : Lent). l .report) e) in (
+      ap (λ (l : Lent). l .answer) e,
+      (
+        ap (λ (l : Lent). l .buffer) e,
+        c .before .before .put-columns .ensures ∙ ap (λ (x : List ℕ). placed (step .before .before .before .before .args .told .now) 0 (toldBytes x)) told,
+      ),
+    )
 
 pub world-step-spec : {M : Type 1} → statement M
 world-step-spec = tie.close (tie.spec (λ c κs. tt) (λ c κs. tt) (λ c κs. tt) (λ c. search needs) (λ c. search needs) returns)
