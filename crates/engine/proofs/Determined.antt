@@ -1,0 +1,400 @@
+-- "Two results that satisfy one promise are proved equal" (document 01): for every public function, its promise and that two results, or two
+-- buffers, that satisfy it are equal. Results that a promise states by a meaning are equal in what they mean: the unused entries of a row and
+-- the unused fields of a body may differ (docs/DECISIONS.md, 34). Assumes nothing.
+use mathlib.Core.Path.{_≡_, refl, sym, ap, _∙_}
+use mathlib.Core.List.{List, [], _∷_}
+use Prim.Native.Nat.{ℕ, _+_, _≤_}
+use lib.Bits.{bitOr}
+use lib.Dec.{leb}
+use lib.ListN.{length, getD, set}
+use Rattle.views.specs.View.{membersOf, memberOf, quorumOf, reachesOf, withinOf, insideOf, clashOf}
+use Rattle.views.specs.Chain.{hasOf, lacksOf, conflictOf, sameOf, leastOf, mostOf, plusOf, unionOf, heardOf, beyondOf, aboveOf}
+use Rattle.views.specs.Row.{viewsOf, rowOf}
+use Rattle.views.specs.declared.Sequence.{Sequence}
+use Rattle.stamps.specs.Stamp.{comparedOf, greaterOf, greatestOf, freshPair}
+use Rattle.stamps.specs.Stamp as stamps
+use Rattle.stamps.specs.declared.Stamp.{Stamp}
+use Rattle.stamps.specs.declared.Pair.{Pair}
+use Rattle.rows.specs.Bytes.{placed, be16, be32, u16At, u32At, zeros}
+use Rattle.rows.specs.Tests.{allZero}
+use Rattle.rules.specs.Messages as rules
+use Rattle.rules.specs.State.{noRelay, noDesk}
+use Rattle.rules.specs.Generators as generators
+use Rattle.rules.specs.Relays as relays
+use Rattle.rules.specs.Desks.{cleared, ended}
+use Rattle.rules.specs.Desks as desks
+use Rattle.rules.specs.Image.{bodyRow, sequenceBytes, sequenceAt, pairBytes, pairAt, headBytes, generatorBytes, generatorAt, transferBytes, transferAt, deskBytes, deskAt, rowBytes, rowAt, goodBytes}
+use Rattle.rules.specs.Lent.{Lent, lentStart, lentStep}
+use Rattle.rules.specs.declared.Desk.{Desk}
+use Rattle.rules.specs.declared.Phase.{Phase}
+use Rattle.rules.specs.declared.Step.{Step}
+use Rattle.state.specs.declared.Notes.{Notes}
+use Rattle.state.specs.declared.Generator.{Generator}
+use Rattle.state.specs.declared.Transfer.{Transfer}
+use Rattle.state.specs.declared.Head.{Head}
+use Rattle.state.specs.declared.Part.{Part}
+use Rattle.state.specs.declared.Body.{Body}
+use Rattle.state.specs.declared.Message.{Message}
+use Rattle.state.specs.Meaning.{notesOf, generatorOf, transferOf, relayOf, partOf, bodyOf, sendingOf}
+use Rattle.state.specs.Plans.{noSending, turnOf, turned, planOf, deskPlanOf, planned}
+use Rattle.messages.specs.Made.{fieldsOf, toOneOf}
+use Rattle.generator.specs.Heard.{heardInRow}
+use Rattle.relay.specs.Fitting.{joinAnswer, timerAnswer, hearsAnswer}
+use Rattle.image.specs.Parts.{notesBytes, notesAt, headAt, messageRow}
+use Rattle.world.specs.Answer.{reportOf, lentOf}
+use Rattle.world.specs.declared.Answer.{Answer}
+use Rattle.world.specs.declared.Report.{Report}
+use Rattle.world.specs.declared.Report.the-variants.{Nothing, Opened, ReadDone, WriteDone}
+use Rattle.engine.specs.Told.{goodNumber, toldBytes, toldOf}
+
+-- whatever satisfies P is equal
+abbrev pub Determined : {A : Type 0} → (A → Type 0) → Type 0
+Determined {A} P = (r s : A) → P r → P s → r ≡ s
+
+pub by-equation : {A : Type 0} (x : A) → Determined (λ (r : A). r ≡ x)
+by-equation x r s e f = e ∙ sym f
+
+-- whatever satisfies P is equal in what it means
+abbrev pub DeterminedBy : {A B : Type 0} → (A → B) → (A → Type 0) → Type 0
+DeterminedBy {A} f P = (r s : A) → P r → P s → f r ≡ f s
+
+pub by-meaning : {A B : Type 0} (f : A → B) (x : B) → DeterminedBy f (λ (r : A). f r ≡ x)
+by-meaning f x r s e g = e ∙ sym g
+
+-- ---- views
+
+pub views-members : (v : ℕ) → Determined (λ r. r ≡ membersOf v)
+views-members v = by-equation (membersOf v)
+
+pub views-is-member : (v s : ℕ) → Determined (λ r. r ≡ memberOf v s)
+views-is-member v s = by-equation (memberOf v s)
+
+pub views-quorum : (v : ℕ) → Determined (λ r. r ≡ quorumOf v)
+views-quorum v = by-equation (quorumOf v)
+
+pub views-reaches : (v who : ℕ) → Determined (λ r. r ≡ reachesOf v who)
+views-reaches v who = by-equation (reachesOf v who)
+
+pub views-within : (a b : ℕ) → Determined (λ r. r ≡ withinOf a b)
+views-within a b = by-equation (withinOf a b)
+
+pub views-inside : (a b : ℕ) → Determined (λ r. r ≡ insideOf a b)
+views-inside a b = by-equation (insideOf a b)
+
+pub views-clash : (a b : ℕ) → Determined (λ r. r ≡ clashOf a b)
+views-clash a b = by-equation (clashOf a b)
+
+pub views-join : (a b : ℕ) → Determined (λ r. r ≡ bitOr a b)
+views-join a b = by-equation (bitOr a b)
+
+pub views-empty : Determined (λ r. r ≡ rowOf [])
+views-empty = by-equation (rowOf [])
+
+pub views-count : (q : Sequence) → Determined (λ r. (r ≡ length (viewsOf q)) × (r ≤ 15))
+views-count q r s e f = e .0 ∙ sym (f .0)
+
+pub views-view-at : (q : Sequence) (i : ℕ) → Determined (λ r. r ≡ getD (viewsOf q) i 0)
+views-view-at q i = by-equation (getD (viewsOf q) i 0)
+
+pub views-kept : (q : Sequence) → Determined (λ r. r ≡ rowOf (viewsOf q))
+views-kept q = by-equation (rowOf (viewsOf q))
+
+pub views-has : (q : Sequence) (v : ℕ) → Determined (λ r. r ≡ hasOf (viewsOf q) v)
+views-has q v = by-equation (hasOf (viewsOf q) v)
+
+pub views-lacks : (q own : Sequence) → Determined (λ r. r ≡ lacksOf (viewsOf q) (viewsOf own))
+views-lacks q own = by-equation (lacksOf (viewsOf q) (viewsOf own))
+
+pub views-conflict : (q own : Sequence) → Determined (λ r. r ≡ conflictOf (viewsOf q) (viewsOf own))
+views-conflict q own = by-equation (conflictOf (viewsOf q) (viewsOf own))
+
+pub views-same : (a b : Sequence) → Determined (λ r. r ≡ sameOf (viewsOf a) (viewsOf b))
+views-same a b = by-equation (sameOf (viewsOf a) (viewsOf b))
+
+pub views-least : (q : Sequence) → Determined (λ r. r ≡ leastOf (viewsOf q))
+views-least q = by-equation (leastOf (viewsOf q))
+
+pub views-most : (q : Sequence) → Determined (λ r. r ≡ mostOf (viewsOf q))
+views-most q = by-equation (mostOf (viewsOf q))
+
+pub views-single : (v : ℕ) → Determined (λ r. r ≡ rowOf (v ∷ []))
+views-single v = by-equation (rowOf (v ∷ []))
+
+pub views-plus : (v : ℕ) (q : Sequence) → Determined (λ r. r ≡ rowOf (plusOf v (viewsOf q)))
+views-plus v q = by-equation (rowOf (plusOf v (viewsOf q)))
+
+pub views-union : (a b : Sequence) → Determined (λ r. r ≡ rowOf (unionOf (viewsOf a) (viewsOf b)))
+views-union a b = by-equation (rowOf (unionOf (viewsOf a) (viewsOf b)))
+
+pub views-heard : (own converged q : Sequence) → Determined (λ r. r ≡ rowOf (heardOf (viewsOf own) (viewsOf converged) (viewsOf q)))
+views-heard own converged q = by-equation (rowOf (heardOf (viewsOf own) (viewsOf converged) (viewsOf q)))
+
+pub views-beyond : (w : ℕ) (q : Sequence) → Determined (λ r. r ≡ rowOf (beyondOf w (viewsOf q)))
+views-beyond w q = by-equation (rowOf (beyondOf w (viewsOf q)))
+
+pub views-above : (v : ℕ) (q : Sequence) → Determined (λ r. r ≡ aboveOf v (viewsOf q))
+views-above v q = by-equation (aboveOf v (viewsOf q))
+
+-- ---- stamps
+
+pub stamps-compare : (a b : Stamp) → Determined (λ r. r ≡ comparedOf a b)
+stamps-compare a b = by-equation (comparedOf a b)
+
+pub stamps-greater : (a b : Stamp) → Determined (λ r. r ≡ greaterOf a b)
+stamps-greater a b = by-equation (greaterOf a b)
+
+pub stamps-same : (a b : Stamp) → Determined (λ r. r ≡ stamps.sameOf a b)
+stamps-same a b = by-equation (stamps.sameOf a b)
+
+pub stamps-greatest : (held new : Pair) → Determined (λ r. r ≡ greatestOf held new)
+stamps-greatest held new = by-equation (greatestOf held new)
+
+pub stamps-fresh : Determined (λ r. r ≡ freshPair)
+stamps-fresh = by-equation freshPair
+
+-- ---- rows; of a function that writes, the bytes after it, where l is what the buffer held before
+
+pub rows-has-room : (len at n : ℕ) → Determined (λ r. r ≡ leb (at + n) len)
+rows-has-room len at n = by-equation (leb (at + n) len)
+
+pub rows-byte-at : (l : List ℕ) (at : ℕ) → Determined (λ r. r ≡ getD l at 0)
+rows-byte-at l at = by-equation (getD l at 0)
+
+pub rows-put-byte : (l : List ℕ) (at x : ℕ) → Determined (λ b. b ≡ placed l at (x ∷ []))
+rows-put-byte l at x = by-equation (placed l at (x ∷ []))
+
+pub rows-put-u16 : (l : List ℕ) (at x : ℕ) → Determined (λ b. b ≡ placed l at (be16 x))
+rows-put-u16 l at x = by-equation (placed l at (be16 x))
+
+pub rows-put-u32 : (l : List ℕ) (at x : ℕ) → Determined (λ b. b ≡ placed l at (be32 x))
+rows-put-u32 l at x = by-equation (placed l at (be32 x))
+
+pub rows-clear : (l : List ℕ) (at n : ℕ) → Determined (λ b. b ≡ placed l at (zeros n))
+rows-clear l at n = by-equation (placed l at (zeros n))
+
+pub rows-read-u16 : (l : List ℕ) (at : ℕ) → Determined (λ r. r ≡ u16At l at)
+rows-read-u16 l at = by-equation (u16At l at)
+
+pub rows-read-u32 : (l : List ℕ) (at : ℕ) → Determined (λ r. r ≡ u32At l at)
+rows-read-u32 l at = by-equation (u32At l at)
+
+pub rows-is-zero : (l : List ℕ) (at n : ℕ) → Determined (λ r. r ≡ allZero l at n)
+rows-is-zero l at n = by-equation (allZero l at n)
+
+-- ---- rules
+
+pub rules-cleared : (self : Desk) (phase : Phase) (view : ℕ) (holds : Pair) (tries : ℕ) → Determined (λ r. r ≡ cleared self phase view holds tries)
+rules-cleared self phase view holds tries = by-equation (cleared self phase view holds tries)
+
+pub rules-ended : (self : Desk) → Determined (λ r. r ≡ ended self)
+rules-ended self = by-equation (ended self)
+
+-- ---- messages
+
+pub messages-request : (u c : ℕ) → DeterminedBy bodyOf (λ r. bodyOf r ≡ rules.request u c)
+messages-request u c = by-meaning bodyOf (rules.request u c)
+
+pub messages-view : (v : ℕ) → DeterminedBy bodyOf (λ r. bodyOf r ≡ rules.view v)
+messages-view v = by-meaning bodyOf (rules.view v)
+
+pub messages-proposal : (v : ℕ) (q : Sequence) → DeterminedBy bodyOf (λ r. bodyOf r ≡ rules.proposal v (viewsOf q))
+messages-proposal v q = by-meaning bodyOf (rules.proposal v (viewsOf q))
+
+pub messages-converged : (v : ℕ) (q : Sequence) → DeterminedBy bodyOf (λ r. bodyOf r ≡ rules.converged v (viewsOf q))
+messages-converged v q = by-meaning bodyOf (rules.converged v (viewsOf q))
+
+pub messages-install : (o w : ℕ) (q : Sequence) → DeterminedBy bodyOf (λ r. bodyOf r ≡ rules.install o w (viewsOf q))
+messages-install o w q = by-meaning bodyOf (rules.install o w (viewsOf q))
+
+pub messages-state : (o w : ℕ) (p : Pair) (updates : ℕ) → DeterminedBy bodyOf (λ r. bodyOf r ≡ rules.state o w p updates)
+messages-state o w p updates = by-meaning bodyOf (rules.state o w p updates)
+
+pub messages-get : (tries c : ℕ) → DeterminedBy bodyOf (λ r. bodyOf r ≡ rules.get tries c)
+messages-get tries c = by-meaning bodyOf (rules.get tries c)
+
+pub messages-put : (tries c : ℕ) (p : Pair) → DeterminedBy bodyOf (λ r. bodyOf r ≡ rules.put tries c p)
+messages-put tries c p = by-meaning bodyOf (rules.put tries c p)
+
+pub messages-view-reply : (tries v : ℕ) → DeterminedBy bodyOf (λ r. bodyOf r ≡ rules.viewReply tries v)
+messages-view-reply tries v = by-meaning bodyOf (rules.viewReply tries v)
+
+pub messages-pair-reply : (tries : ℕ) (p : Pair) → DeterminedBy bodyOf (λ r. bodyOf r ≡ rules.pairReply tries p)
+messages-pair-reply tries p = by-meaning bodyOf (rules.pairReply tries p)
+
+pub messages-ack : (tries : ℕ) → DeterminedBy bodyOf (λ r. bodyOf r ≡ rules.ack tries)
+messages-ack tries = by-meaning bodyOf (rules.ack tries)
+
+pub messages-plain : (b : Body) → DeterminedBy fieldsOf (λ r. fieldsOf r ≡ bodyRow 0 0 (bodyOf b))
+messages-plain b = by-meaning fieldsOf (bodyRow 0 0 (bodyOf b))
+
+pub messages-no-sending : DeterminedBy sendingOf (λ r. sendingOf r ≡ noSending)
+messages-no-sending = by-meaning sendingOf noSending
+
+pub messages-to-members : (v : ℕ) (body : Body) → DeterminedBy sendingOf (λ r. sendingOf r ≡ rules.toMembers v (bodyOf body))
+messages-to-members v body = by-meaning sendingOf (rules.toMembers v (bodyOf body))
+
+pub messages-to-both : (v w : ℕ) (body : Body) → DeterminedBy sendingOf (λ r. sendingOf r ≡ rules.toBoth v w (bodyOf body))
+messages-to-both v w body = by-meaning sendingOf (rules.toBoth v w (bodyOf body))
+
+pub messages-to-one : (s : ℕ) (body : Body) → DeterminedBy sendingOf (λ r. sendingOf r ≡ toOneOf s (bodyOf body))
+messages-to-one s body = by-meaning sendingOf (toOneOf s (bodyOf body))
+
+-- ---- generator
+
+pub generator-fresh : (v : ℕ) → DeterminedBy generatorOf (λ r. generatorOf r ≡ generators.fresh v)
+generator-fresh v = by-meaning generatorOf (generators.fresh v)
+
+pub generator-noted : (n : Notes) (from : ℕ) (q : Sequence) → DeterminedBy notesOf (λ r. notesOf r ≡ set (notesOf n) from (viewsOf q))
+generator-noted n from q = by-meaning notesOf (set (notesOf n) from (viewsOf q))
+
+pub generator-agreeing : (n : Notes) (q : Sequence) → Determined (λ r. r ≡ generators.noted (notesOf n) (viewsOf q))
+generator-agreeing n q = by-equation (generators.noted (notesOf n) (viewsOf q))
+
+pub generator-agree : (v : ℕ) (n : Notes) (q : Sequence) → Determined (λ r. r ≡ generators.agree v (notesOf n) (viewsOf q))
+generator-agree v n q = by-equation (generators.agree v (notesOf n) (viewsOf q))
+
+pub generator-proposes : (g : Generator) (q : Sequence) → DeterminedBy turnOf (λ r. turnOf r ≡ turned (generators.proposes (generatorOf g) (viewsOf q)))
+generator-proposes g q = by-meaning turnOf (turned (generators.proposes (generatorOf g) (viewsOf q)))
+
+pub generator-proposal-heard : (g : Generator) (from : ℕ) (q : Sequence) → DeterminedBy turnOf (λ r. turnOf r ≡ turned (heardInRow (generatorOf g) from (viewsOf q)))
+generator-proposal-heard g from q = by-meaning turnOf (turned (heardInRow (generatorOf g) from (viewsOf q)))
+
+pub generator-converged-heard : (g : Generator) (from : ℕ) (q : Sequence) → DeterminedBy turnOf (λ r. turnOf r ≡ turned (generators.convergedHeard (generatorOf g) from (viewsOf q)))
+generator-converged-heard g from q = by-meaning turnOf (turned (generators.convergedHeard (generatorOf g) from (viewsOf q)))
+
+-- ---- relay
+
+pub relay-join-asked : (s : ℕ) (p : Part) → DeterminedBy planOf (λ r. planOf r ≡ planned noRelay (joinAnswer s (partOf p)))
+relay-join-asked s p = by-meaning planOf (planned noRelay (joinAnswer s (partOf p)))
+
+pub relay-leave-asked : (s : ℕ) (p : Part) → DeterminedBy planOf (λ r. planOf r ≡ planned noRelay (relays.leaveAsked s (partOf p)))
+relay-leave-asked s p = by-meaning planOf (planned noRelay (relays.leaveAsked s (partOf p)))
+
+pub relay-timer-rang : (p : Part) → DeterminedBy planOf (λ r. planOf r ≡ planned noRelay (timerAnswer (partOf p)))
+relay-timer-rang p = by-meaning planOf (planned noRelay (timerAnswer (partOf p)))
+
+pub relay-hears : (s : ℕ) (p : Part) (from : ℕ) (b : Body) → DeterminedBy planOf (λ r. planOf r ≡ planned noRelay (hearsAnswer s (partOf p) from (bodyOf b)))
+relay-hears s p from b = by-meaning planOf (planned noRelay (hearsAnswer s (partOf p) from (bodyOf b)))
+
+-- ---- desk
+
+pub desk-read-asked : (d : Desk) → DeterminedBy deskPlanOf (λ r. deskPlanOf r ≡ planned noDesk (desks.readAsked d))
+desk-read-asked d = by-meaning deskPlanOf (planned noDesk (desks.readAsked d))
+
+pub desk-write-asked : (d : Desk) (x : ℕ) → DeterminedBy deskPlanOf (λ r. deskPlanOf r ≡ planned noDesk (desks.writeAsked d x))
+desk-write-asked d x = by-meaning deskPlanOf (planned noDesk (desks.writeAsked d x))
+
+pub desk-hears : (n : ℕ) (d : Desk) (from : ℕ) (b : Body) → DeterminedBy deskPlanOf (λ r. deskPlanOf r ≡ planned noDesk (desks.deskHears n d from (bodyOf b)))
+desk-hears n d from b = by-meaning deskPlanOf (planned noDesk (desks.deskHears n d from (bodyOf b)))
+
+-- ---- image
+
+pub image-sequence-at : (l : List ℕ) (at : ℕ) → DeterminedBy viewsOf (λ r. viewsOf r ≡ sequenceAt l at)
+image-sequence-at l at = by-meaning viewsOf (sequenceAt l at)
+
+pub image-put-sequence : (l : List ℕ) (at : ℕ) (q : Sequence) → Determined (λ b. b ≡ placed l at (sequenceBytes (viewsOf q)))
+image-put-sequence l at q = by-equation (placed l at (sequenceBytes (viewsOf q)))
+
+pub image-pair-at : (l : List ℕ) (at : ℕ) → Determined (λ r. r ≡ pairAt l at)
+image-pair-at l at = by-equation (pairAt l at)
+
+pub image-put-pair : (l : List ℕ) (at : ℕ) (p : Pair) → Determined (λ b. b ≡ placed l at (pairBytes p))
+image-put-pair l at p = by-equation (placed l at (pairBytes p))
+
+pub image-head-at : (l : List ℕ) (at : ℕ) → Determined (λ r. r ≡ headAt l at)
+image-head-at l at = by-equation (headAt l at)
+
+pub image-put-head : (l : List ℕ) (at : ℕ) (h : Head) → Determined (λ b. b ≡ placed l at (headBytes (relayOf h [] [])))
+image-put-head l at h = by-equation (placed l at (headBytes (relayOf h [] [])))
+
+pub image-notes-at : (l : List ℕ) (at : ℕ) → DeterminedBy notesOf (λ r. notesOf r ≡ notesAt l at)
+image-notes-at l at = by-meaning notesOf (notesAt l at)
+
+pub image-put-notes : (l : List ℕ) (at : ℕ) (n : Notes) → Determined (λ b. b ≡ placed l at (notesBytes (notesOf n)))
+image-put-notes l at n = by-equation (placed l at (notesBytes (notesOf n)))
+
+pub image-generator-at : (l : List ℕ) (at : ℕ) → DeterminedBy generatorOf (λ r. generatorOf r ≡ generatorAt l at)
+image-generator-at l at = by-meaning generatorOf (generatorAt l at)
+
+pub image-put-generator : (l : List ℕ) (at : ℕ) (g : Generator) → Determined (λ b. b ≡ placed l at (generatorBytes (generatorOf g)))
+image-put-generator l at g = by-equation (placed l at (generatorBytes (generatorOf g)))
+
+pub image-transfer-at : (l : List ℕ) (at : ℕ) → DeterminedBy transferOf (λ r. transferOf r ≡ transferAt l at)
+image-transfer-at l at = by-meaning transferOf (transferAt l at)
+
+pub image-put-transfer : (l : List ℕ) (at : ℕ) (t : Transfer) → Determined (λ b. b ≡ placed l at (transferBytes (transferOf t)))
+image-put-transfer l at t = by-equation (placed l at (transferBytes (transferOf t)))
+
+pub image-desk-at : (l : List ℕ) (at : ℕ) → Determined (λ r. r ≡ deskAt l at)
+image-desk-at l at = by-equation (deskAt l at)
+
+pub image-put-desk : (l : List ℕ) (at : ℕ) (d : Desk) → Determined (λ b. b ≡ placed l at (deskBytes d))
+image-put-desk l at d = by-equation (placed l at (deskBytes d))
+
+pub image-message-at : (l : List ℕ) (at : ℕ) → DeterminedBy messageRow (λ r. messageRow r ≡ rowAt l at)
+image-message-at l at = by-meaning messageRow (rowAt l at)
+
+pub image-put-message : (l : List ℕ) (at : ℕ) (m : Message) → Determined (λ b. b ≡ placed l at (rowBytes (messageRow m)))
+image-put-message l at m = by-equation (placed l at (rowBytes (messageRow m)))
+
+-- ---- good
+
+pub good-is-good : (l : List ℕ) → Determined (λ r. r ≡ goodBytes l)
+good-is-good l = by-equation (goodBytes l)
+
+-- ---- world; both the answer and the bytes after it
+
+-- the report that means this event, of this relay or desk
+reportFor : rules.Event → ℕ → Report
+reportFor rules.nothing who = Nothing
+reportFor (rules.opened v) who = Opened who v
+reportFor (rules.readDone p) who = ReadDone who p
+reportFor (rules.writeDone p) who = WriteDone who p
+
+report-back : (r : Report) → reportFor (reportOf r .event) (reportOf r .who) ≡ r
+unfolding reportOf reportFor
+report-back Nothing = refl
+report-back (Opened relay view) = refl
+report-back (ReadDone desk pair) = refl
+report-back (WriteDone desk pair) = refl
+
+answerFor : Lent → Answer
+answerFor l = record { number = l .answer; report = reportFor (l .report .event) (l .report .who) }
+
+answer-back : (r : Answer) (b : List ℕ) → answerFor (lentOf r b) ≡ r
+unfolding lentOf answerFor
+answer-back r b =
+    let with : Report → Answer = λ x. record { number = r .number; report = x } in
+    ap with (report-back (r .report))
+
+pub lent-determined : (l : Lent) (r s : Answer) (b c : List ℕ) → lentOf r b ≡ l → lentOf s c ≡ l → (r ≡ s) × (b ≡ c)
+unfolding lentOf
+lent-determined l r s b c e f =
+    let same = e ∙ sym f in
+    (sym (answer-back r b) ∙ ap answerFor same ∙ answer-back s c, ap (λ (x : Lent). x .buffer) same)
+
+pub world-start : (l : List ℕ) (mask : ℕ) (r s : Answer) (b c : List ℕ) → lentOf r b ≡ lentStart l mask → lentOf s c ≡ lentStart l mask → (r ≡ s) × (b ≡ c)
+world-start l mask = lent-determined (lentStart l mask)
+
+pub world-step : (l : List ℕ) (k : Step) (r s : Answer) (b c : List ℕ) → lentOf r b ≡ lentStep l k → lentOf s c ≡ lentStep l k → (r ≡ s) × (b ≡ c)
+world-step l k = lent-determined (lentStep l k)
+
+-- ---- engine; the answer, the world and the columns, each with a promise of its own
+
+pub engine-world-good : (l : List ℕ) → Determined (λ r. r ≡ goodNumber l)
+engine-world-good l = by-equation (goodNumber l)
+
+pub engine-world-start-answer : (l : List ℕ) (mask : ℕ) → Determined (λ r. r ≡ lentStart l mask .answer)
+engine-world-start-answer l mask = by-equation (lentStart l mask .answer)
+
+pub engine-world-start-buffer : (l : List ℕ) (mask : ℕ) → Determined (λ b. b ≡ lentStart l mask .buffer)
+engine-world-start-buffer l mask = by-equation (lentStart l mask .buffer)
+
+pub engine-world-step-answer : (l : List ℕ) (kind id value : ℕ) → Determined (λ r. r ≡ lentStep l (record { kind = kind; id = id; value = value }) .answer)
+engine-world-step-answer l kind id value = by-equation (lentStep l (record { kind = kind; id = id; value = value }) .answer)
+
+pub engine-world-step-buffer : (l : List ℕ) (kind id value : ℕ) → Determined (λ b. b ≡ lentStep l (record { kind = kind; id = id; value = value }) .buffer)
+engine-world-step-buffer l kind id value = by-equation (lentStep l (record { kind = kind; id = id; value = value }) .buffer)
+
+pub engine-world-step-columns : (l told : List ℕ) (kind id value : ℕ) → Determined (λ b. b ≡ placed told 0 (toldBytes (toldOf (lentStep l (record { kind = kind; id = id; value = value })))))
+engine-world-step-columns l told kind id value = by-equation (placed told 0 (toldBytes (toldOf (lentStep l (record { kind = kind; id = id; value = value })))))
