@@ -15,3 +15,4 @@ pub mod Commit
 pub mod Routes
 pub mod Begun
 pub mod Keeps
+pub mod Playing

@@ -1,3 +1,4 @@
 pub mod Answer
 pub mod Narrow
 pub mod Commits
+pub mod Playing

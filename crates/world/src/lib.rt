@@ -29,6 +29,7 @@ use state::Message;
 use state::Plan;
 
 mod reads; // what a step looks up
+pub mod run; // a whole sheet
 mod writes; // what it writes
 
 // "event": none, a view opened, a read or a write ended.

@@ -1,0 +1,50 @@
+-- `rehearse::main` meets its contract. The buffer for the record is longer than every record. Assumes nothing.
+use mathlib.Core.Path.{_≡_, ap, _∙_}
+use mathlib.Core.List.{List}
+use Prim.Native.Nat.{ℕ, _≤_}
+use native.Mathlib.Omega.{arith}
+use lib.Dec.{eqb}
+use lib.ListN.{length, take, length-take}
+use borrow.Author.Needs.{needs}
+use Rattle.views.proofs.Truth.{cases}
+use Rattle.world.specs.declared.run.Rehearsed.{Rehearsed}
+use Rattle.world.specs.Playing.{told, rehearsal}
+use Rattle.world.proofs.Playing.{rehearsed-long}
+use Rattle.rehearse.proofs.main.Statement.{statement}
+use Rattle.rehearse.proofs.main.Tie as tie
+
+long : (b w out : List ℕ) → rehearsal b w out .length ≤ 624067
+unfolding rehearsal told
+long b w out = cases (λ (r : Rehearsed). r .length ≤ 624067) (eqb (length w) 65536) (λ _. rehearsed-long b) (λ _. omega arith)
+
+fits : (b w out : List ℕ) (r : Rehearsed) (l : List ℕ) → r ≡ rehearsal b w out → length l ≡ 640000 → r .length ≤ length l
+fits b w out r l e h = omega (arith, ap (λ (x : Rehearsed). x .length) e, long b w out)
+
+counts : (n : ℕ) (l : List ℕ) → n ≤ length l → n ≡ length (take n l)
+counts n l h = omega (arith, length-take n l)
+
+array-share-prefix-out : tie.Need-array-share-prefix-out
+array-share-prefix-out c =
+    let r = c .before .before .rehearse in
+    fits _ _ _ (r .result) (r .last .1 .1 .0) (r .ensures .0) (c .out2 .given)
+
+slice-aggregate-write-all : tie.Need-slice-aggregate-write-all
+slice-aggregate-write-all c =
+    let r = c .before .before .before .rehearse in
+    counts (r .result .length) (r .last .1 .1 .0) (array-share-prefix-out (c .before))
+
+pub main-spec : {M : Type 1} → statement M
+main-spec =
+    tie.close
+    (tie.spec
+    (λ c. search needs)
+    (λ c κs. search needs)
+    (λ c. search needs)
+    (λ c. search needs)
+    (λ c. search needs)
+    (λ c. search needs)
+    (λ c κs. search needs)
+    array-share-prefix-out
+    slice-aggregate-write-all
+    (λ c κs. search needs)
+    (λ c. search needs))

@@ -1,0 +1,220 @@
+// A whole run of a sheet, and its printed record. Document 01, "Sheets and the printed record".
+ghost use mathlib.Core.Path.{_≡_};
+ghost use mathlib.Core.Bool.{true, false};
+ghost use mathlib.Core.List.{List, [], _∷_};
+ghost use Prim.Native.Nat.{ℕ, _+_, _*_, _≤_, _<_};
+ghost use lib.ListN.{length, getD, drop};
+ghost use Rattle.rules.specs.State.{World, start};
+ghost use Rattle.rules.specs.Sending.{waitingIn};
+ghost use Rattle.rules.specs.WellFormed.{wellFormed};
+ghost use Rattle.rules.specs.Image.{image, worldAt, goodBytes};
+ghost use Rattle.rules.specs.Sheets.{badSheet, stepsOf, stepsIn};
+ghost use Rattle.rules.specs.Runs.{fields, lastWorld, printed};
+ghost use Rattle.sheet.specs.Reading.{stepAt};
+ghost use Rattle.sheet.specs.declared.Found.the-variants as found;
+ghost use Rattle.record.specs.Lines.{laid, past, endOf};
+ghost use Rattle.world.specs.Answer.{reportOf};
+ghost use Rattle.world.specs.Playing.{columnsOf, Turned, Ran, told, rehearsal, worldLeft, recordLeft};
+use super::Answer;
+use super::Report;
+use rules::Step;
+use sheet::Found;
+use stamps::Pair;
+
+// ---- columns
+
+// "event, who, stamp count, stamp desk [..], and value (events 2, 3) or view (event 1), zeros where none"
+pub struct Columns {
+    pub event: u8,
+    pub who: u8,
+    pub count: u16,
+    pub desk: u8,
+    pub last: u32,
+}
+
+fn ended(event: u8, who: u8, pair: Pair) -> Columns
+    ensures { λ r. ⌜ columnsOf r ≡ event ∷ who ∷ pair .stamp .count ∷ pair .stamp .desk ∷ pair .value ∷ [] ⌝ }
+{
+    Columns {
+        event: event,
+        who: who,
+        count: pair.stamp.count,
+        desk: pair.stamp.desk,
+        last: pair.value,
+    }
+}
+
+pub fn columns_of(a: Answer) -> Columns
+    ensures { λ r. ⌜ columnsOf r ≡ fields (reportOf (a .report) .event) (reportOf (a .report) .who) ⌝ }
+{
+    let report = a.report;
+    match report {
+        Report::Nothing => Columns {
+            event: 0,
+            who: 0,
+            count: 0,
+            desk: 0,
+            last: 0,
+        },
+        Report::Opened { relay, view } => Columns {
+            event: 1,
+            who: relay,
+            count: 0,
+            desk: 0,
+            last: view as u32,
+        },
+        Report::ReadDone { desk, pair } => ended(2, desk, pair),
+        Report::WriteDone { desk, pair } => ended(3, desk, pair),
+    }
+}
+
+// ---- steps
+
+// The position past the lines, and what the accepted steps delivered and dropped.
+struct Tally {
+    at: usize,
+    delivered: u32,
+    dropped: u32,
+}
+
+// One step, and its line.
+fn turn(w: &mut [u8], out: &mut [u8], at: usize, number: u32, k: Step) -> Tally
+    requires { ⌜ goodBytes (now w) ≡ true ⌝ }
+    ensures { λ r. ⌜ Turned (worldAt (now (w .entry))) k number at (now (out .entry)) (now (w .exit)) (now (out .exit)) r ⌝ }
+{
+    let kind = k.kind;
+    let a = super::step_good(w, k);
+    let answer = a.number;
+    let c = columns_of(a);
+    let next = record::put_step(
+        out,
+        at,
+        number,
+        answer,
+        c.event,
+        c.who,
+        c.count,
+        c.desk,
+        c.last,
+    );
+    Tally {
+        at: next,
+        delivered: ((answer == 0) & (kind == 6)) as u32,
+        dropped: ((answer == 0) & (kind == 7)) as u32,
+    }
+}
+
+// The step i, from 0.
+fn step_of(sheet: &[u8], i: usize) -> Step
+    requires { ⌜ i < 8000 ⌝ }
+    ensures { λ r. ⌜ ((k : Step) → stepAt (now (sheet .entry)) (6 + 8 * i) ≡ found.At k → r ≡ k) ⌝ }
+{
+    match sheet::step_at(sheet, 6 + 8 * i) {
+        Found::At(k) => k,
+        Found::End => Step {
+            kind: 0,
+            id: 0,
+            value: 0,
+        },
+    }
+}
+
+// "a line a step: number from 1, .."
+fn turns(sheet: &[u8], steps: usize, w: &mut [u8], out: &mut [u8], at: usize) -> Tally
+    requires { ⌜ (goodBytes (now w) ≡ true) × ((badSheet (now sheet) ≡ false) × (steps ≡ stepsOf (now sheet))) ⌝ }
+    ensures { λ r. ⌜ Ran (worldAt (now (w .entry))) (stepsIn steps (drop 6 (now (sheet .entry)))) at (now (out .entry)) (now (w .exit)) (now (out .exit)) r ⌝ }
+{
+    let mut i = 0;
+    let mut p = at;
+    let mut delivered: u32 = 0;
+    let mut dropped: u32 = 0;
+    while i < steps {
+        let k = step_of(sheet, i);
+        let t = turn(w, out, p, i as u32 + 1, k);
+        p = t.at;
+        delivered += t.delivered;
+        dropped += t.dropped;
+        i += 1;
+    }
+    Tally {
+        at: p,
+        delivered: delivered,
+        dropped: dropped,
+    }
+}
+
+// ---- the whole
+
+// "The first three are counted from the accepted steps, waiting from the last world; sent is the sum of the others."
+fn put_totals(w: &[u8], out: &mut [u8], t: Tally) -> usize
+    requires { ⌜ (t .delivered ≤ 8000) × (t .dropped ≤ 8000) ⌝ }
+    ensures position { λ r. ⌜ ((W : World) → wellFormed W ≡ true → now (w .entry) ≡ image W
+        → r ≡ past (t .at) (endOf (t .delivered + t .dropped + waitingIn (W .places)) (t .delivered) (t .dropped) (waitingIn (W .places)))) ⌝ }
+    ensures bytes { λ _. ⌜ ((W : World) → wellFormed W ≡ true → now (w .entry) ≡ image W
+        → now (out .exit) ≡ laid (now (out .entry)) (t .at) (endOf (t .delivered + t .dropped + waitingIn (W .places)) (t .delivered) (t .dropped) (waitingIn (W .places)))) ⌝ }
+{
+    let waiting = 256 - super::reads::free_places(w) as u32;
+    record::put_end(
+        out,
+        t.at,
+        t.delivered + t.dropped + waiting,
+        t.delivered,
+        t.dropped,
+        waiting,
+    )
+}
+
+// An accepted sheet.
+fn play(sheet: &[u8], mask: u8, steps: usize, w: &mut [u8], out: &mut [u8]) -> usize
+    requires { ⌜ (length (now w) ≡ 65536) × ((badSheet (now sheet) ≡ false) × ((mask ≡ getD (now sheet) 5 0) × (steps ≡ stepsOf (now sheet)))) ⌝ }
+    ensures position { λ r. ⌜ r ≡ past 0 (printed mask (stepsIn steps (drop 6 (now (sheet .entry))))) ⌝ }
+    ensures bytes { λ _. ⌜ now (out .exit) ≡ laid (now (out .entry)) 0 (printed mask (stepsIn steps (drop 6 (now (sheet .entry))))) ⌝ }
+    ensures world { λ _. ⌜ now (w .exit) ≡ image (lastWorld (start mask) (stepsIn steps (drop 6 (now (sheet .entry))))) ⌝ }
+{
+    super::start(w, mask);
+    let at = record::put_start(out, mask);
+    let t = turns(sheet, steps, w, out, at);
+    put_totals(w, out, t)
+}
+
+pub struct Rehearsed {
+    pub answer: u8,
+    pub length: usize,
+}
+
+// NO ROOM where the record is longer than its buffer.
+fn fitted(length: usize, room: usize) -> Rehearsed
+    ensures { λ r. ⌜ r ≡ told room length ⌝ }
+{
+    if room < length {
+        return Rehearsed {
+            answer: 8,
+            length: length,
+        };
+    }
+    Rehearsed {
+        answer: 0,
+        length: length,
+    }
+}
+
+// What `rehearse` prints for a sheet, as much of it as fits, and the last world. BAD WORLD where that buffer has another length.
+pub fn rehearse(sheet: &[u8], world: &mut [u8], out: &mut [u8]) -> Rehearsed
+    ensures answer { λ r. ⌜ r ≡ rehearsal (now (sheet .entry)) (now (world .entry)) (now (out .entry)) ⌝ }
+    ensures last { λ _. ⌜ now (world .exit) ≡ worldLeft (now (sheet .entry)) (now (world .entry)) ⌝ }
+    ensures printed { λ _. ⌜ now (out .exit) ≡ recordLeft (now (sheet .entry)) (now (world .entry)) (now (out .entry)) ⌝ }
+{
+    if world.len() != 65536 {
+        return Rehearsed {
+            answer: 1,
+            length: 0,
+        };
+    }
+    let s = sheet::check(sheet);
+    if s.bad {
+        let short = record::put_bad(out);
+        return fitted(short, out.len());
+    }
+    let length = play(sheet, s.mask, s.steps, world, out);
+    fitted(length, out.len())
+}
