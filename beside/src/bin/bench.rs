@@ -51,6 +51,10 @@ fn check(name: &str, world: &[u8]) {
 }
 
 fn main() {
+    if !engine::LINKED {
+        eprintln!("bench: the engine's archive is for x86-64; a time taken through a pipe says nothing");
+        std::process::exit(2);
+    }
     let seed = std::env::args().nth(1).map_or(Ok(4), |word| word.parse());
     let seed = seed.expect("usage: bench [SEED]");
     let mut start = vec![0; SIZE];

@@ -1,15 +1,15 @@
 -- `rehearse::main` meets its contract. The buffer for the record is longer than every record. Assumes nothing.
-use mathlib.Core.Path.{_≡_, ap, _∙_}
+use mathlib.Core.Path.{_≡_, sym, ap}
 use mathlib.Core.List.{List}
 use Prim.Native.Nat.{ℕ, _≤_}
 use native.Mathlib.Omega.{arith}
 use lib.Dec.{eqb}
-use lib.ListN.{length, take, length-take}
+use lib.ListN.{length, take, replicate, length-take, length-replicate}
 use borrow.Author.Needs.{needs}
 use Rattle.views.proofs.Truth.{cases}
 use Rattle.world.specs.declared.run.Rehearsed.{Rehearsed}
 use Rattle.world.specs.Playing.{told, rehearsal}
-use Rattle.world.proofs.Playing.{rehearsed-long}
+use Rattle.world.proofs.Lengths.{rehearsed-long}
 use Rattle.rehearse.proofs.main.Statement.{statement}
 use Rattle.rehearse.proofs.main.Tie as tie
 
@@ -22,6 +22,10 @@ fits b w out r l e h = omega (arith, ap (λ (x : Rehearsed). x .length) e, long 
 
 counts : (n : ℕ) (l : List ℕ) → n ≤ length l → n ≡ length (take n l)
 counts n l h = omega (arith, length-take n l)
+
+-- a long repeat is not counted by computing
+zeros : (n : ℕ) → n ≡ length {A = ℕ} (replicate n 0)
+zeros n = sym (length-replicate n 0)
 
 array-share-prefix-out : tie.Need-array-share-prefix-out
 array-share-prefix-out c =
@@ -37,12 +41,12 @@ pub main-spec : {M : Type 1} → statement M
 main-spec =
     tie.close
     (tie.spec
-    (λ c. search needs)
+    (λ c. zeros 64008)
     (λ c κs. search needs)
     (λ c. search needs)
     (λ c. search needs)
-    (λ c. search needs)
-    (λ c. search needs)
+    (λ c. zeros 65536)
+    (λ c. zeros 640000)
     (λ c κs. search needs)
     array-share-prefix-out
     slice-aggregate-write-all
