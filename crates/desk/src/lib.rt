@@ -15,6 +15,7 @@ ghost use Rattle.rules.specs.State.{noDesk};
 ghost use Rattle.rules.specs.Desks as rule;
 ghost use Rattle.state.specs.Meaning.{bodyOf, eventOf};
 ghost use Rattle.state.specs.Plans.{planned, deskPlanOf};
+ghost use Rattle.desk.specs.Replies.{replyNoted};
 
 const NOT_NOW: u8 = 5;
 
@@ -112,11 +113,11 @@ fn begins(d: Desk, phase: Phase, v: u16, p: Pair) -> DeskPlan
     if 65535 <= d.tries {
         return refuses(WORN);
     }
-    let tries = d.tries + 1;
-    let body = asks(phase, tries, v, p);
+    let next = d.begun(phase, v, p);
+    let body = asks(phase, next.tries, v, p);
     DeskPlan {
         answer: 0,
-        desk: d.cleared(phase, v, p, tries),
+        desk: next,
         first: messages::to_members(v, body),
         event: Event::Nothing,
     }
@@ -186,11 +187,13 @@ fn notes_ack(d: Desk, from: u8) -> Desk
     next
 }
 
-// One comparison tells whether the reply is the best, and whether it agrees with those before.
+// One comparison tells whether the reply is the best, and whether it agrees with those before. Only the relays 0 to 7 have a bit to be noted by.
 fn notes_pair(d: Desk, from: u8, p: Pair) -> Desk
-    requires { ⌜ from < 8 ⌝ }
-    ensures { λ r. ⌜ r ≡ rule.notesPair d from p ⌝ }
+    ensures { λ r. ⌜ r ≡ replyNoted d from p ⌝ }
 {
+    if 8 <= from {
+        return d;
+    }
     let held = d.best;
     let order = stamps::compare(p.stamp, held.stamp);
     let mut next = notes_ack(d, from);
@@ -199,6 +202,23 @@ fn notes_pair(d: Desk, from: u8, p: Pair) -> Desk
         next.best = p;
     }
     next
+}
+
+// "who replied, best reply, whether all stamps agreed": the one thin function that notes a reply in a desk record lent by &mut. Its
+// work is done by value, above; what is left, from the lent record and back into it, is proved by hand.
+pub fn note_reply(desk: &mut Desk, from: u8, p: Pair)
+    ensures { λ _. ⌜ now (desk .exit) ≡ replyNoted (now (desk .entry)) from p ⌝ }
+{
+    *desk = notes_pair(*desk, from, p);
+}
+
+// Lends a record that came by value. Its own parameters are plain, so the proofs by hand end here.
+fn with_reply(d: Desk, from: u8, p: Pair) -> Desk
+    ensures { λ r. ⌜ r ≡ replyNoted d from p ⌝ }
+{
+    let mut held = d;
+    note_reply(&mut held, from, p);
+    held
 }
 
 // "Idle, only alive, view and try stay."
@@ -267,7 +287,7 @@ fn pair_came(n: u8, d: Desk, from: u8, tries: u16, p: Pair) -> DeskPlan
     if !is_first(phase) {
         return does_nothing(d);
     }
-    counted(n, notes_pair(d, from, p))
+    counted(n, with_reply(d, from, p))
 }
 
 fn ack_came(n: u8, d: Desk, from: u8, tries: u16) -> DeskPlan

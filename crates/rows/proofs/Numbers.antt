@@ -6,8 +6,8 @@ use Prim.Native.Nat.{ℕ, zero, suc, _+_, _*_, _^_, _/_, _%_, _≤_, _<_}
 use native.Mathlib.Nat.{add-assoc, add-zero, pow-zero, pow-suc}
 use native.Mathlib.Omega.{arith}
 use lib.ListN.{length, getD, length-append, List·getD-eq-default}
-use Rattle.rows.specs.Bytes.{placed, bytesOf, numberAt, be16, be32, u16At, u32At, run, zeros}
-use Rattle.rows.proofs.Laws.{Holds, holds-self, holds-left, holds-right, holds-byte, placed-holds, placed-held}
+use Rattle.rows.specs.Bytes.{bytesOf, numberAt, be16, be32, u16At, u32At, run, zeros}
+use Rattle.rows.proofs.Laws.{Holds, holds-self, holds-left, holds-right, holds-byte}
 use Rattle.rows.proofs.Held.{holds-nil, holds-one, holds-append}
 
 -- every element is a byte
@@ -38,10 +38,6 @@ holds-number (suc n) l o x small h =
 -- the bytes of a number, and what is written of it, read as that number
 pub number-back : (n x : ℕ) → x < 256 ^ n → numberAt n (bytesOf n x) 0 ≡ x
 number-back n x small = holds-number n (bytesOf n x) 0 x small (holds-self (bytesOf n x))
-
-pub placed-number : (n : ℕ) (l : List ℕ) (o x : ℕ) → x < 256 ^ n → o + n ≤ length l → numberAt n (placed l o (bytesOf n x)) o ≡ x
-placed-number n l o x small h =
-    holds-number n (placed l o (bytesOf n x)) o x small (placed-holds l (bytesOf n x) o (rw (length-bytesOf n x) h))
 
 -- ---- halves: two bytes are one and one, four are two and two
 
@@ -78,10 +74,6 @@ module _ (l : List ℕ) (o : ℕ) (bytes : Bytes l) where
       let low : (x * 256 + y) % 256 ≡ y = omega arith in
       rw (high, low) (holds-append l (bytesOf n x) (y ∷ []) o n (length-bytesOf n x) (number-held n (omega arith)) (holds-one l (o + n) (omega arith)))
 
-  -- writing what was read changes nothing
-  pub number-again : (n : ℕ) → o + n ≤ length l → placed l o (bytesOf n (numberAt n l o)) ≡ l
-  number-again n h = placed-held l (bytesOf n (numberAt n l o)) o (number-held n h)
-
 -- ---- two and four bytes
 
 pub length-be16 : (x : ℕ) → length (be16 x) ≡ 2
@@ -95,15 +87,3 @@ holds-u16 = holds-number 2
 
 pub holds-u32 : (l : List ℕ) (o x : ℕ) → x < 4294967296 → Holds l o (be32 x) → u32At l o ≡ x
 holds-u32 = holds-number 4
-
-pub u16-small : (l : List ℕ) (o : ℕ) → Bytes l → u16At l o < 65536
-u16-small l o b = number-small l o b 2
-
-pub u32-small : (l : List ℕ) (o : ℕ) → Bytes l → u32At l o < 4294967296
-u32-small l o b = number-small l o b 4
-
-pub u16-held : (l : List ℕ) (o : ℕ) → Bytes l → o + 2 ≤ length l → Holds l o (be16 (u16At l o))
-u16-held l o b = number-held l o b 2
-
-pub u32-held : (l : List ℕ) (o : ℕ) → Bytes l → o + 4 ≤ length l → Holds l o (be32 (u32At l o))
-u32-held l o b = number-held l o b 4

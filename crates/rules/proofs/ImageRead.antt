@@ -10,9 +10,9 @@ use Rattle.rules.specs.State.{Relay, noRelay, noDesk, free, World}
 use Rattle.rules.specs.State as state
 use Rattle.rules.specs.Generators.{fresh}
 use Rattle.rules.specs.Relays.{freshTransfer}
-use Rattle.rules.specs.Image.{headBytes, generatorBytes, transferBytes, relayBytes, deskBytes, placeBytes, image, generatorAt, transferAt, relayAt, deskAt, rowAt, placeIn}
+use Rattle.rules.specs.Image.{generatorBytes, transferBytes, relayBytes, deskBytes, placeBytes, image, generatorAt, transferAt, relayAt, deskAt}
 use Rattle.rules.proofs.ImageWidths.{length-generator, length-transfer, length-relay, length-desk, length-place}
-use Rattle.rules.proofs.ImageRows.{generator-back, transfer-back, relay-back, desk-back, place-back, holds-head, holds-generators, holds-transfers}
+use Rattle.rules.proofs.ImageRows.{generator-back, transfer-back, desk-back, holds-generators, holds-transfers}
 use Rattle.rules.proofs.ImageWorld.{WorldFits, holds-relays, holds-desks, holds-places}
 
 -- ---- in a relay's region, wherever it stands
@@ -37,9 +37,6 @@ module _ (w : World) (s : ℕ) (hs : s < 8) where
   pub holds-relay : Holds (image w) (s * 5440) (relayBytes (state.relayAt w s))
   holds-relay = rw zero-add at (table-holds relayBytes noRelay 5440 8 length-relay (image w) 0 s (w .relays) hs (holds-relays w))
 
-  pub image-head : Holds (image w) (s * 5440) (headBytes (state.relayAt w s))
-  image-head = holds-head (image w) (s * 5440) (state.relayAt w s) holds-relay
-
   pub image-generator : (i : ℕ) → i < 8 → Holds (image w) (s * 5440 + 64 + i * 592) (generatorBytes (getD (state.relayAt w s .generators) i (fresh 0)))
   image-generator = holds-generator (image w) (s * 5440) (state.relayAt w s) holds-relay
 
@@ -51,12 +48,6 @@ module _ (w : World) (s : ℕ) (hs : s < 8) where
 module _ (w : World) (f : WorldFits w) where
   pub read-desk : (n : ℕ) → n < 4 → deskAt (image w) (43520 + n * 64) ≡ state.deskAt w n
   read-desk n h = desk-back (image w) (43520 + n * 64) (state.deskAt w n) (f .desk n) (holds-desk w n h)
-
-  pub read-place : (p : ℕ) → p < 256 → placeIn (rowAt (image w) (43776 + p * 80)) ≡ state.placeAt w p
-  read-place p h = place-back (image w) (43776 + p * 80) (state.placeAt w p) (f .place p) (holds-place w p h)
-
-  pub read-relay : (s : ℕ) → s < 8 → relayAt (image w) (s * 5440) ≡ state.relayAt w s
-  read-relay s hs = relay-back (image w) (s * 5440) (state.relayAt w s) (f .relay s) (holds-relay w s hs)
 
   pub read-generator : (s i : ℕ) → s < 8 → i < 8 → generatorAt (image w) (s * 5440 + 64 + i * 592) ≡ getD (state.relayAt w s .generators) i (fresh 0)
   read-generator s i hs hi = generator-back (image w) (s * 5440 + 64 + i * 592) _ (f .relay s .generators .each i) (image-generator w s hs i hi)

@@ -1,6 +1,6 @@
 -- What a piece written into the image of a world makes of it: the image of the world with that part changed. Assumes nothing.
 use mathlib.Core.Path.{_≡_, sym, ap, _∙_}
-use mathlib.Core.List.{List, [], _∷_, _++_}
+use mathlib.Core.List.{List}
 use Prim.Native.Nat.{ℕ, _+_, _*_, _≤_, _<_}
 use native.Mathlib.Nat.{add-zero, zero-add}
 use native.Mathlib.Omega.{arith}
@@ -13,7 +13,7 @@ use Rattle.rules.specs.Generators.{fresh}
 use Rattle.rules.specs.Relays.{freshTransfer}
 use Rattle.rules.specs.Image.{headBytes, generatorBytes, transferBytes, relayBytes, deskBytes, placeBytes, image}
 use Rattle.rules.proofs.ImageWidths.{length-head, length-generator, length-transfer, relayFields, relay-widths, length-relay, length-desk, length-place, worldTables, world-widths}
-use Rattle.rules.proofs.ImageChange.{Changed, changed-set, changed-add, table-change}
+use Rattle.rules.proofs.ImageChange.{Changed, changed-set, table-change}
 use Rattle.rules.proofs.ImageWorld.{Shaped}
 
 -- a whole row written over another
@@ -50,14 +50,6 @@ module _ (r : Relay) where
       rw (← add-zero (i * 592))
       (write-generator gs i 0 (generatorBytes g) g c hi (omega (arith, length-generator g)) (over generatorBytes length-generator (getD (r .generators) i (fresh 0)) g))
 
-  pub set-generator : (i : ℕ) (g : Generator) → i < length (r .generators) → i < 8
-      → splice (relayBytes r) (64 + i * 592) (generatorBytes g) ≡ relayBytes (withGenerators r (set (r .generators) i g))
-  set-generator i g h = put-generator (set (r .generators) i g) i g (changed-set (r .generators) i g h)
-
-  pub add-generator : (g : Generator) → length (r .generators) < 8
-      → splice (relayBytes r) (64 + length (r .generators) * 592) (generatorBytes g) ≡ relayBytes (withGenerators r (r .generators ++ (g ∷ [])))
-  add-generator g = put-generator (r .generators ++ (g ∷ [])) (length (r .generators)) g (changed-add (r .generators) g)
-
   -- a transfer's place
   pub write-transfer : (ts : List Transfer) (i o : ℕ) (v : List ℕ) (t : Transfer) → Changed (freshTransfer 0 0) (r .transfers) i t ts → i < 8 → o + length v ≤ 80
       → splice (transferBytes (getD (r .transfers) i (freshTransfer 0 0))) o v ≡ transferBytes t
@@ -72,14 +64,6 @@ module _ (r : Relay) where
   put-transfer ts i t c hi =
       rw (← add-zero (i * 80))
       (write-transfer ts i 0 (transferBytes t) t c hi (omega (arith, length-transfer t)) (over transferBytes length-transfer (getD (r .transfers) i (freshTransfer 0 0)) t))
-
-  pub set-transfer : (i : ℕ) (t : Transfer) → i < length (r .transfers) → i < 8
-      → splice (relayBytes r) (4800 + i * 80) (transferBytes t) ≡ relayBytes (withTransfers r (set (r .transfers) i t))
-  set-transfer i t h = put-transfer (set (r .transfers) i t) i t (changed-set (r .transfers) i t h)
-
-  pub add-transfer : (t : Transfer) → length (r .transfers) < 8
-      → splice (relayBytes r) (4800 + length (r .transfers) * 80) (transferBytes t) ≡ relayBytes (withTransfers r (r .transfers ++ (t ∷ [])))
-  add-transfer t = put-transfer (r .transfers ++ (t ∷ [])) (length (r .transfers)) t (changed-add (r .transfers) t)
 
   -- all transfers at once
   pub put-transfers : (ts : List Transfer) → splice (relayBytes r) 4800 (table transferBytes (freshTransfer 0 0) 8 ts) ≡ relayBytes (withTransfers r ts)
@@ -117,11 +101,6 @@ module _ (w : World) (shaped : Shaped w) where
       ∙ ap (λ (t : List ℕ). cat (set (worldTables w) 0 t))
       (table-change relayBytes noRelay 5440 8 length-relay (w .relays) (set (w .relays) s r) s o v r (changed-set (w .relays) s r (omega arith)) hs ho e)
 
-  pub put-relay : (s : ℕ) (r : Relay) → s < 8 → splice (image w) (s * 5440) (relayBytes r) ≡ image (withRelay w s r)
-  put-relay s r hs =
-      ap (λ (n : ℕ). splice (image w) n (relayBytes r)) (sym (add-zero (s * 5440)))
-      ∙ write-relay s 0 (relayBytes r) r hs (omega (arith, length-relay r)) (over relayBytes length-relay (relayAt w s) r)
-
   pub write-desk : (n o : ℕ) (v : List ℕ) (d : Desk) → n < 4 → o + length v ≤ 64 → splice (deskBytes (deskAt w n)) o v ≡ deskBytes d
       → splice (image w) (43520 + (n * 64 + o)) v ≡ image (withDesk w n d)
   unfolding image
@@ -134,15 +113,6 @@ module _ (w : World) (shaped : Shaped w) where
   pub put-desk : (n : ℕ) (d : Desk) → n < 4 → splice (image w) (43520 + n * 64) (deskBytes d) ≡ image (withDesk w n d)
   put-desk n d hn = rw (← add-zero (n * 64)) (write-desk n 0 (deskBytes d) d hn (omega (arith, length-desk d)) (over deskBytes length-desk (deskAt w n) d))
 
-  pub set-place : (p : ℕ) (x : Place) → p < 256 → splice (image w) (43776 + p * 80) (placeBytes x) ≡ image (withPlaces w (set (w .places) p x))
-  set-place p x hp = let long = shaped .places in put-place w (set (w .places) p x) p x (changed-set (w .places) p x (omega arith)) hp
-
   -- the world stays one of 8 relays, 4 desks and 256 places
   pub shaped-relay : (s : ℕ) (r : Relay) → Shaped (withRelay w s r)
   shaped-relay s r = record { relays = length-set (w .relays) s r ∙ shaped .relays; desks = shaped .desks; places = shaped .places }
-
-  pub shaped-desk : (n : ℕ) (d : Desk) → Shaped (withDesk w n d)
-  shaped-desk n d = record { relays = shaped .relays; desks = length-set (w .desks) n d ∙ shaped .desks; places = shaped .places }
-
-  pub shaped-places : (ps : List Place) → length ps ≡ length (w .places) → Shaped (withPlaces w ps)
-  shaped-places ps e = record { relays = shaped .relays; desks = shaped .desks; places = e ∙ shaped .places }

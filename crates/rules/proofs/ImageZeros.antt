@@ -5,7 +5,7 @@ use mathlib.Core.List.{List, [], _∷_, _++_, append-nil, append-assoc}
 use Prim.Native.Nat.{ℕ, zero, suc, _+_, _*_}
 use native.Mathlib.Nat.{add-zero, add-suc}
 use native.Mathlib.Omega.{arith}
-use lib.ListN.{getD, replicate, length-replicate}
+use lib.ListN.{getD, replicate}
 use Rattle.rows.specs.Bytes.{be16, run, cat, sum, table, zeros}
 use Rattle.rows.proofs.Numbers.{zeros-number}
 use Rattle.rules.specs.Stamps.{zeroPair}
@@ -14,7 +14,6 @@ use Rattle.rules.specs.Generators.{fresh}
 use Rattle.rules.specs.Relays.{freshTransfer}
 use Rattle.rules.specs.Image.{sequenceBytes, pairBytes, headBytes, generatorBytes, transferBytes, relayBytes, deskBytes, rowBytes, placeBytes, image}
 use Rattle.rules.proofs.ImageFits.{replicate-at}
-use Rattle.rules.proofs.ImageWorld.{Shaped}
 
 -- ---- zeros in pieces
 
@@ -103,9 +102,6 @@ place-zeros =
 
 abbrev pub noWorld : World
 noWorld = record { relays = replicate 8 noRelay; desks = replicate 4 noDesk; places = replicate 256 free }
-
-pub no-world-shaped : Shaped noWorld
-no-world-shaped = record { relays = refl; desks = refl; places = length-replicate 256 free }
 
 pub image-zeros : image noWorld ≡ zeros 65536
 unfolding image

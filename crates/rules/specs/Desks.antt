@@ -40,6 +40,10 @@ full count = leb 65535 count
 abbrev pub cleared : Desk → Phase → ℕ → Pair → ℕ → Desk
 cleared d ph v p try = record { alive = d .alive; view = v; phase = ph; tries = try; holds = p; replied = 0; best = zeroPair; agreed = false }
 
+-- the desk in its next phase, with the next try; one that has no try left stays as it is (and its step is WORN)
+unfoldable pub begun : Desk → Phase → ℕ → Pair → Desk
+begun d ph v p = if full (d .tries) then d else cleared d ph v p (d .tries + 1)
+
 abbrev pub asks : Phase → ℕ → ℕ → Pair → Body
 asks ph try v p = if isFirst ph then get try v else put try v p
 

@@ -1,6 +1,6 @@
 // Document 01's rules are definitions: specs/, in document 01's order. Here stand the values that code and rules share as they are.
 ghost use mathlib.Core.Path.{_≡_};
-ghost use Rattle.rules.specs.Desks.{cleared, ended};
+ghost use Rattle.rules.specs.Desks.{cleared, begun, ended};
 
 // A step as a sheet has it.
 pub struct Step {
@@ -32,8 +32,7 @@ pub struct Desk {
 }
 
 impl Desk {
-    // "Each phase begins by adding 1 to the try, clearing the replies": the desk in its next phase.
-    pub fn cleared(self, phase: Phase, view: u16, holds: stamps::Pair, tries: u16) -> Desk
+    fn cleared(self, phase: Phase, view: u16, holds: stamps::Pair, tries: u16) -> Desk
         ensures { λ r. ⌜ r ≡ cleared self phase view holds tries ⌝ }
     {
         Desk {
@@ -46,6 +45,16 @@ impl Desk {
             best: stamps::fresh(),
             agreed: false,
         }
+    }
+
+    // "Each phase begins by adding 1 to the try, clearing the replies": the desk in its next phase. One that has no try left stays as it is.
+    pub fn begun(self, phase: Phase, view: u16, holds: stamps::Pair) -> Desk
+        ensures { λ r. ⌜ r ≡ begun self phase view holds ⌝ }
+    {
+        if 65535 <= self.tries {
+            return self;
+        }
+        self.cleared(phase, view, holds, self.tries + 1)
     }
 
     // "Idle, only alive, view and try stay."

@@ -8,8 +8,8 @@ use Prim.Native.Nat.{ℕ}
 use lib.Dec.{eqb, ltb}
 use borrow.Author.Tests.{eqb-true, eq-eqb, not-false}
 use Rattle.views.specs.Choice.{if_then_else_, those}
-use Rattle.views.specs.View.{clashOf, insideOf}
-use Rattle.views.specs.Chain.{some, hasOf, lacksOf, conflictOf, sameOf, plusOf, unionOf, beyondOf}
+use Rattle.views.specs.View.{insideOf}
+use Rattle.views.specs.Chain.{some, hasOf, lacksOf, sameOf, plusOf, unionOf, beyondOf}
 use Rattle.views.proofs.Truth.{contrary, never-true, either-true, true-left, true-right, cases}
 
 -- ---- a test over the views
@@ -66,12 +66,6 @@ lacks-trans a b c h k = lacks-test a c (λ x e. lacks-fact b c k x (lacks-fact a
 -- the view of q that own lacks
 pub lacks-some : (q own : List ℕ) → lacksOf q own ≡ true → Passes (λ v. not (hasOf own v)) q
 lacks-some q own e = some-fact (λ v. not (hasOf own v)) q e
-
-pub conflict-fact : (q own : List ℕ) → conflictOf q own ≡ false → (x y : ℕ) → hasOf q x ≡ true → hasOf own y ≡ true → clashOf x y ≡ false
-conflict-fact q own n x y h k = none-fact (clashOf x) y own (none-fact (λ v. some (clashOf v) own) x q n h) k
-
-pub conflict-test : (q own : List ℕ) → ((x y : ℕ) → hasOf q x ≡ true → hasOf own y ≡ true → clashOf x y ≡ false) → conflictOf q own ≡ false
-conflict-test q own h = none-test (λ v. some (clashOf v) own) q (λ x e. none-test (clashOf x) own (λ y k. h x y e k))
 
 -- ---- the same views
 

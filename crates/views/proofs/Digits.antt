@@ -7,12 +7,12 @@ use mathlib.Core.Bool.{true, false, not, _&&_, _||_, and-eq-true-iff}
 use Prim.Native.Nat.{ℕ, zero, suc, _+_, _-_, _/_, _%_, _^_, _<_, min, max}
 use native.Mathlib.Omega.{arith}
 use native.Mathlib.Decide.{ℕ-discrete, decLt}
-use native.Mathlib.Nat.{div-eq-of-lt, div-self, sub-zero, zero-div, mul-comm, div-div-eq-div-mul, pow-suc}
+use native.Mathlib.Nat.{div-eq-of-lt, div-self, zero-div, mul-comm, div-div-eq-div-mul, pow-suc}
 use lib.Arith.{bin-ind}
 use lib.Dec.{eqb}
 use lib.Bits.{bitAnd, bitOr, and-step, or-step, and-shr, or-shr, and-le-l}
 use lib.Pow.{pow-pos, pow-mono, shr-shr, field, mod-mod-pow}
-use borrow.Author.Tests.{eqb-true, eqb-false, eq-eqb, ne-eqb, not-true}
+use borrow.Author.Tests.{eqb-true, eqb-false, eq-eqb, ne-eqb}
 use Rattle.views.specs.View.{bitOf}
 use Rattle.views.proofs.Truth.{decided, never-true, never-false, same-truth, either-true, neither-true}
 
@@ -83,10 +83,6 @@ digit-not zero (suc k) a l h = simp digit-first (omega (arith, pow-suc 2 k))
 digit-not (suc i) (suc k) a l h =
     let e : ((2 ^ suc k - 1) - a) / 2 ≡ (2 ^ k - 1) - a / 2 = omega (arith, pow-suc 2 k) in
     simp (digit-suc, e) (digit-not i k (a / 2) (omega arith) (omega (arith, pow-suc 2 k)))
-
--- a word of k set digits
-pub digit-ones : (i k : ℕ) → i < k → digit i (2 ^ k - 1) ≡ 1
-digit-ones i k l = simp (sub-zero, digit-zero) at (digit-not i k 0 l (pow-pos k))
 
 -- the set of one member: `1 << j`
 pub digit-same : (j : ℕ) → digit j (2 ^ j) ≡ 1
@@ -161,16 +157,6 @@ bit-or s a b =
     (λ f. bit-test (bitOr a b) s (omega (arith, digit-or s a b, bit-fact b s f, digit-lt s a)))
     (either-true (bitOf a s) (bitOf b s) e))
 
-pub bit-less : (s a b : ℕ) → bitOf (a - bitAnd a b) s ≡ (bitOf a s && not (bitOf b s))
-bit-less s a b =
-    same-truth (bitOf (a - bitAnd a b) s) (bitOf a s && not (bitOf b s))
-    (λ e.
-    let d : digit s a - digit s b ≡ 1 = sym (digit-less s a b) ∙ bit-fact (a - bitAnd a b) s e in
-    and-eq-true-iff _ _ .1 (bit-test a s (omega (arith, digit-lt s a)), ap not (clear-test b s (omega (arith, digit-lt s a)))))
-    (λ e.
-    let h = and-eq-true-iff (bitOf a s) (not (bitOf b s)) .0 e in
-    bit-test (a - bitAnd a b) s (omega (arith, digit-less s a b, bit-fact a s (h .0), clear-fact b s (not-true (bitOf b s) (h .1)))))
-
 pub bit-one : (i j : ℕ) → bitOf (2 ^ j) i ≡ eqb i j
 bit-one i j = go (ℕ-discrete i j)
   where
@@ -187,10 +173,6 @@ bit-below k m s h e = go (decLt s k)
     go : Dec (s < k) → s < k
     go (yes l) = l
     go (no l) = absurd (omega (arith, bit-fact m s e, digit-past s m (omega (arith, pow-mono {i = k} {j = s} (omega arith)))))
-
-pub bits-ext : (a b : ℕ) → ((s : ℕ) → bitOf a s ≡ bitOf b s) → a ≡ b
-unfolding digit
-bits-ext a b h = ext a b (λ i. ⊎-elim (λ e. bit-fact a i e ∙ sym (bit-fact b i (sym (h i) ∙ e))) (λ e. clear-fact a i e ∙ sym (clear-fact b i (sym (h i) ∙ e))) (decided (bitOf a i)))
 
 -- the k low digits, the digits from k on, and the complement in k digits, as the code writes them
 pub bit-low : (k s a : ℕ) → s < k → bitOf (a % 2 ^ k) s ≡ bitOf a s

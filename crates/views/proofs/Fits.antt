@@ -1,29 +1,20 @@
 -- A row cuts nothing off: what the rules make of sequences kept for a view with an update has at most 15 views, so that the row holds all of them.
 -- The premises are the tests by which goodness is stated. Assumes nothing.
-use mathlib.Core.Path.{_≡_, refl, sym, _∙_}
+use mathlib.Core.Path.{_≡_, refl, _∙_}
 use mathlib.Core.Logic.{_≢_}
 use mathlib.Core.Bool.{true, false}
 use mathlib.Core.List.{List}
 use Prim.Native.Nat.{ℕ, _-_, _≤_, _<_}
-use native.Mathlib.Omega.{arith}
-use lib.ListN.{length, take, replicate, length-take, length-append, length-replicate}
+use lib.ListN.{length, take}
 use lib.Seq.{take-all}
 use Rattle.views.specs.Chain.{lacksOf, conflictOf, unionOf, heardOf, aboveOf}
 use Rattle.views.specs.Row.{viewsOf, rowOf}
-use Rattle.views.proofs.Rows.{held, clean-row}
+use Rattle.views.proofs.Rows.{held}
 use Rattle.views.proofs.Nested.{Above, above-fact, above-fits}
 use Rattle.views.proofs.Merge.{above-union, above-heard}
 
 pub views-row : (l : List ℕ) → viewsOf (rowOf l) ≡ take 15 l
 views-row l = held (rowOf l) l refl
-
-pub row-full : (l : List ℕ) → length (rowOf l .views) ≡ 15
-unfolding rowOf
-row-full l = simp (length-append, length-replicate, length-take) (omega arith)
-
--- the row of what a row holds is that row
-pub row-again : (l : List ℕ) → rowOf (viewsOf (rowOf l)) ≡ rowOf l
-row-again l = sym (clean-row (rowOf l) l refl)
 
 pub views-whole : (l : List ℕ) → length l ≤ 15 → viewsOf (rowOf l) ≡ l
 views-whole l h = views-row l ∙ take-all 15 l h

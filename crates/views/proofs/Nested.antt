@@ -39,9 +39,6 @@ above-test (above-more {w = w} i h a) = rw (inside-test i, lt-ltb w 65536 h, abo
 pub above-first : {v w : ℕ} {l : List ℕ} → Above v (w ∷ l) → Inside v w
 above-first (above-more i h a) = i
 
-pub above-rest : {v w : ℕ} {l : List ℕ} → Above v (w ∷ l) → Above w l
-above-rest (above-more i h a) = a
-
 -- ---- it is short: each view has an update more than the one before
 
 pub above-ones : {v : ℕ} {l : List ℕ} → v < 65536 → Above v l → ones v + length l ≤ 16

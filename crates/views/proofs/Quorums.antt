@@ -7,11 +7,11 @@ use Prim.Native.Nat.{ℕ, _+_, _/_, _<_, _≤_}
 use native.Mathlib.Omega.{arith}
 use lib.Bits.{bitAnd}
 use lib.Count.{ones}
-use borrow.Author.Tests.{leb-true, le-leb}
+use borrow.Author.Tests.{leb-true}
 use Rattle.views.specs.View.{bitOf, membersOf, memberOf, quorumOf, reachesOf}
 use Rattle.views.proofs.Truth.{never-true, contrary}
 use Rattle.views.proofs.Digits.{member, bit-test, bit-and, bit-none}
-use Rattle.views.proofs.Sets.{and-within-right, or-within, ones-within, ones-or-and, bit-within, member-bit, member-lt}
+use Rattle.views.proofs.Sets.{and-within-right, or-within, ones-within, ones-or-and, member-bit, member-lt}
 
 -- a member of v that is in both
 pub record Shared (v a b : ℕ) : Type 0 where
@@ -43,18 +43,6 @@ quorums-share v a b h k =
 
 pub quorum-someone : (v a : ℕ) → reachesOf v a ≡ true → Shared v a a
 quorum-someone v a h = quorums-share v a a h h
-
-pub reaches-more : (v a b : ℕ) → ((s : ℕ) → memberOf v s ≡ true → bitOf a s ≡ true → bitOf b s ≡ true) → reachesOf v a ≡ true → reachesOf v b ≡ true
-unfolding reachesOf
-reaches-more v a b more h =
-    let m : ℕ = membersOf v in
-    le-leb (quorumOf v) (ones (bitAnd b m)) (omega (
-      arith,
-      counted v a h,
-      ones-within (bit-within (bitAnd a m) (bitAnd b m) (λ s e.
-          let p = and-eq-true-iff (bitOf a s) (bitOf m s) .0 (sym (bit-and s a m) ∙ e) in
-          bit-and s b m ∙ and-eq-true-iff (bitOf b s) (bitOf m s) .1 (more s (member-bit v s ∙ p .1) (p .0), p .1))),
-    ))
 
 pub nobody : (v who : ℕ) → membersOf v ≡ 0 → reachesOf v who ≡ false
 nobody v who e = never-true (reachesOf v who) (λ h.

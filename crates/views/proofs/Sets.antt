@@ -1,6 +1,6 @@
 -- The laws of finite sets kept as numbers (Digits): inclusion, union, intersection, size, and the members of a view. For all proofs of the project.
 -- The laws speak of facts (`Within`, `Inside`); the last parts tie them to the tests (`withinOf`, `insideOf`, `clashOf`, `memberOf`). Assumes nothing.
-use mathlib.Core.Path.{_≡_, refl, sym, ap, ap₂, _∙_}
+use mathlib.Core.Path.{_≡_, refl, sym, ap, _∙_}
 use mathlib.Core.Logic.{_≢_, _⊎_, inl, inr, ⊎-elim}
 use mathlib.Core.Bool.{Bool, true, false, not, _&&_, and-eq-true-iff}
 use Prim.Native.Nat.{ℕ, zero, suc, _+_, _-_, _/_, _%_, _^_, _≤_, _<_}
@@ -14,7 +14,7 @@ use lib.Count.{ones, ones-step}
 use borrow.Author.Tests.{eqb-true, eqb-false, eq-eqb, ne-eqb, not-true}
 use Rattle.views.specs.View.{bitOf, membersOf, memberOf, withinOf, insideOf, clashOf}
 use Rattle.views.proofs.Truth.{decided, never-true, contrary}
-use Rattle.views.proofs.Digits.{digit, digit-lt, digit-and, digit-or, digit-other, and-half, and-low, or-half, or-low, none, ext, bit-fact, bit-test, clear-fact, bit-and, bit-low, bit-shr, bit-not, bit-below, bit-none, bit-one}
+use Rattle.views.proofs.Digits.{digit, digit-lt, digit-and, digit-or, and-half, and-low, or-half, or-low, ext, bit-fact, bit-test, clear-fact, bit-below, bit-none, bit-one}
 
 -- ---- inclusion, as a program tests it: `a & b == a`. A record, so that nothing unfolds it and its two sets are implicit in a lemma
 
@@ -52,12 +52,6 @@ within-or-right a b = digit-within (λ i. omega (arith, digit-or i a b))
 pub or-within : {a b c : ℕ} → Within a c → Within b c → Within (bitOr a b) c
 or-within {a} {b} h k = digit-within (λ i. omega (arith, digit-or i a b, within-digit h i, within-digit k i))
 
-pub or-within-is : {a b : ℕ} → Within a b → bitOr a b ≡ b
-or-within-is {a} {b} h = within-antisym (or-within h (within-refl b)) (within-or-right a b)
-
-pub or-mono : {a b c d : ℕ} → Within a c → Within b d → Within (bitOr a b) (bitOr c d)
-or-mono {a} {b} {c} {d} h k = or-within (within-trans h (within-or-left c d)) (within-trans k (within-or-right c d))
-
 pub or-assoc : (a b c : ℕ) → bitOr (bitOr a b) c ≡ bitOr a (bitOr b c)
 or-assoc a b c =
     ext (bitOr (bitOr a b) c) (bitOr a (bitOr b c))
@@ -68,14 +62,8 @@ and-assoc a b c =
     ext (bitAnd (bitAnd a b) c) (bitAnd a (bitAnd b c))
     (λ i. omega (arith, digit-and i (bitAnd a b) c, digit-and i a b, digit-and i a (bitAnd b c), digit-and i b c))
 
-pub and-within-left : (a b : ℕ) → Within (bitAnd a b) a
-and-within-left a b = digit-within (λ i. omega (arith, digit-and i a b))
-
 pub and-within-right : (a b : ℕ) → Within (bitAnd a b) b
 and-within-right a b = digit-within (λ i. omega (arith, digit-and i a b))
-
-pub within-and : {a b c : ℕ} → Within c a → Within c b → Within c (bitAnd a b)
-within-and {a} {b} h k = digit-within (λ i. omega (arith, digit-and i a b, within-digit h i, within-digit k i))
 
 -- ---- sizes
 
@@ -101,17 +89,6 @@ ones-single zero = refl
 ones-single (suc j) =
     let e : 2 ^ suc j / 2 ≡ 2 ^ j = omega (arith, pow-suc 2 j) in
     omega (arith, ones-step (2 ^ suc j), pow-suc 2 j, ap ones e, ones-single j)
-
--- one member more
-pub ones-insert : (a j : ℕ) → digit j a ≡ 0 → ones (bitOr a (2 ^ j)) ≡ ones a + 1
-unfolding ones
-ones-insert a j e =
-    let d : bitAnd a (2 ^ j) ≡ 0 = none (bitAnd a (2 ^ j)) (λ i. apart i (ℕ-discrete i j)) in
-    omega (arith, ones-or-and a (2 ^ j), ones-single j, ap ones d)
-  where
-    apart : (i : ℕ) → Dec (i ≡ j) → digit i (bitAnd a (2 ^ j)) ≡ 0
-    apart i (yes f) = omega (arith, digit-and i a (2 ^ j), ap (λ (x : ℕ). digit x a) f)
-    apart i (no f) = omega (arith, digit-and i a (2 ^ j), digit-other i j f)
 
 -- a set inside another is that set, or has fewer members
 smaller : (a b : ℕ) → bitAnd a b ≡ a → (a ≡ b) ⊎ (ones a < ones b)
@@ -190,10 +167,6 @@ bit-within a b h =
 pub one-within : (m s : ℕ) → bitOf m s ≡ true → Within (2 ^ s) m
 one-within m s e = bit-within (2 ^ s) m (λ i h. rw (eqb-true i s (sym (bit-one i s) ∙ h)) e)
 
--- a member more is a strict growth
-pub inside-one : (m s : ℕ) → bitOf m s ≡ false → Inside m (bitOr m (2 ^ s))
-inside-one m s e = inside-or m (2 ^ s) (λ w. contrary (within-bit w s (bit-one s s ∙ eq-eqb s s refl)) e)
-
 pub within-fact : (a b : ℕ) → withinOf a b ≡ true → Within a b
 within-fact a b e = record { meets = eqb-true _ a e }
 
@@ -255,13 +228,6 @@ member-bit v s = refl
 pub member-lt : (v s : ℕ) → memberOf v s ≡ true → s < 8
 unfolding memberOf
 member-lt v s e = bit-below 8 (membersOf v) s (members-lt v) e
-
--- relay s is a member of v where it joined and has not left
-pub members-bit : (v s : ℕ) → v < 65536 → s < 8 → memberOf v s ≡ (bitOf v s && not (bitOf v (8 + s)))
-unfolding memberOf
-members-bit v s h l =
-    bit-and s (v % 256) (255 - v / 256)
-    ∙ ap₂ _&&_ (bit-low 8 s v l) (bit-not 8 s (v / 256) l (omega arith) ∙ ap not (bit-shr 8 s v))
 
 pub member-not-empty : (v s : ℕ) → memberOf v s ≡ true → v ≢ 0
 unfolding memberOf

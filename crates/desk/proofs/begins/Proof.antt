@@ -1,9 +1,8 @@
 -- `desk::begins` meets its contract. Assumes nothing.
 use mathlib.Core.Path.{refl}
-use borrow.Author.Needs.{needs}
 use borrow.Author.Tests.{le-leb, lt-leb}
 use Rattle.rules.specs.Messages.{worn}
-use Rattle.rules.specs.Desks.{begins}
+use Rattle.rules.specs.Desks.{begins, begun}
 use Rattle.state.specs.Meaning.{eventOf}
 use Rattle.state.specs.Plans.{planned, deskPlanOf}
 use Rattle.desk.proofs.begins.Statement.{statement}
@@ -14,10 +13,10 @@ unfolding begins
 returns c = rw (le-leb _ _ (c .before .if1 .taken)) (c .refuses .ensures worn refl)
 
 returns-2 : tie.Need-returns-2
-unfolding begins planned deskPlanOf eventOf
+unfolding begins begun planned deskPlanOf eventOf
 returns-2 c =
-    let c4 = c .before .before .before .before in
-    rw (lt-leb _ _ (c4 .if1 .left), c .before .cleared .ensures, c .to-members .ensures, c .before .before .asks .ensures)
+    let c3 = c .before .before .before in
+    rw (c .to-members .ensures, c .before .asks .ensures, c .before .before .begun .ensures, lt-leb _ _ (c3 .if1 .left))
 
 pub begins-spec : {M : Type 1} → statement M
-begins-spec = tie.close (tie.spec (λ c κs. tt) returns (λ c. search needs) (λ c κs. tt) (λ c κs. tt) (λ c κs. tt) returns-2)
+begins-spec = tie.close (tie.spec (λ c κs. tt) returns (λ c κs. tt) (λ c κs. tt) (λ c κs. tt) returns-2)

@@ -6,14 +6,8 @@ use Rattle.rows.proofs.Numbers.{zeros-number}
 use Rattle.rows.proofs.clear.Statement.{statement}
 use Rattle.rows.proofs.clear.Tie as tie
 
-put-requires : tie.Need-put-requires
-put-requires c κs = search needs
-
-same-length : tie.Need-same-length
-same-length c = search needs
-
 returns : tie.Need-returns
 returns c = c .before .before .put .ensures ∙ ap (placed _ _) (zeros-number _)
 
 pub clear-spec : {M : Type 1} → statement M
-clear-spec = tie.close (tie.spec put-requires same-length returns)
+clear-spec = tie.close (tie.spec (λ c κs. search needs) (λ c. search needs) returns)

@@ -46,29 +46,14 @@ abbrev μ-loop : tie.MeasureT-loop
 space : (c : tie.Else1 Inv-loop μ-loop) → let a = c .before .before .before .args in a .at + a .n ≤ length (a .s .now)
 space c = room (c .before .has-room .ensures) (c .if1 .left)
 
-has-room-requires : tie.Need-has-room-requires Inv-loop μ-loop
-has-room-requires c κs = search needs
-
 returns : tie.Need-returns Inv-loop μ-loop
 returns c = no-room _ _ _ (length-bytesOf _ _) (c .before .has-room .ensures) (c .if1 .taken)
 
 loop-holds : tie.Need-loop-holds Inv-loop μ-loop
 loop-holds c = record { within = omega arith; long = refl; is = refl }
 
-sub-i : tie.Need-sub-i Inv-loop μ-loop
-sub-i c = search needs
-
 add-put-byte : tie.Need-add-put-byte Inv-loop μ-loop
 add-put-byte c = let fit = space (c .before .before .before) in omega arith
-
-cast-put-byte : tie.Need-cast-put-byte Inv-loop μ-loop
-cast-put-byte c = search needs
-
-put-byte-requires : tie.Need-put-byte-requires Inv-loop μ-loop
-put-byte-requires c κs = search needs
-
-loop-less : tie.Need-loop-less Inv-loop μ-loop
-loop-less c = search needs
 
 loop-again : tie.Need-loop-again Inv-loop μ-loop
 loop-again c =
@@ -76,26 +61,8 @@ loop-again c =
     let turn = wrote .before .before in
     left-less _ (turn .before .loop .inv) (turn .loop-test .taken) (space (turn .before .before)) (wrote .put-byte .ensures)
 
-same-length : tie.Need-same-length Inv-loop μ-loop
-same-length c = search needs
-
 returns-2 : tie.Need-returns-2 Inv-loop μ-loop
 returns-2 c = left-none (c .before .loop .inv) (c .loop-test .left)
 
 pub put-spec : {M : Type 1} → statement M
-put-spec =
-    tie.close
-    (tie.spec
-    Inv-loop
-    μ-loop
-    has-room-requires
-    returns
-    loop-holds
-    sub-i
-    add-put-byte
-    cast-put-byte
-    put-byte-requires
-    loop-less
-    loop-again
-    same-length
-    returns-2)
+put-spec = tie.close (tie.spec Inv-loop μ-loop (λ c κs. search needs) returns loop-holds (λ c. search needs) add-put-byte (λ c. search needs) (λ c κs. search needs) (λ c. search needs) loop-again (λ c. search needs) returns-2)

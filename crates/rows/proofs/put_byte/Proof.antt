@@ -9,14 +9,8 @@ use Rattle.rows.proofs.put_byte.Tie as tie
 returns : tie.Need-returns
 returns c = sym (placed-not _ _ _ (omega arith))
 
-slice-write-s : tie.Need-slice-write-s
-slice-write-s c = search needs
-
-same-length : tie.Need-same-length
-same-length c = search needs
-
 returns-2 : tie.Need-returns-2
 returns-2 c = set-placed _ _ _
 
 pub put-byte-spec : {M : Type 1} → statement M
-put-byte-spec = tie.close (tie.spec returns slice-write-s same-length returns-2)
+put-byte-spec = tie.close (tie.spec returns (λ c. search needs) (λ c. search needs) returns-2)

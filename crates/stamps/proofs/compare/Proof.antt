@@ -7,18 +7,6 @@ use Rattle.stamps.specs.Stamp.{signOf, comparedOf}
 use Rattle.stamps.proofs.compare.Statement.{statement}
 use Rattle.stamps.proofs.compare.Tie as tie
 
-cast-sign : tie.Need-cast-sign
-cast-sign c = search needs
-
-cast-sign-2 : tie.Need-cast-sign-2
-cast-sign-2 c = search needs
-
-sign-requires : tie.Need-sign-requires
-sign-requires c κs = search needs
-
-sign-requires-2 : tie.Need-sign-requires-2
-sign-requires-2 c κs = search needs
-
 returns : tie.Need-returns
 unfolding comparedOf
 returns c =
@@ -28,4 +16,4 @@ returns c =
     rw (by-count, c .sign2 .ensures) (ap (signOf (a .a .count) (a .b .count)) (by-desk ∙ c .before .sign .ensures))
 
 pub compare-spec : {M : Type 1} → statement M
-compare-spec = tie.close (tie.spec cast-sign cast-sign-2 sign-requires sign-requires-2 returns)
+compare-spec = tie.close (tie.spec (λ c. search needs) (λ c. search needs) (λ c κs. search needs) (λ c κs. search needs) returns)

@@ -7,9 +7,6 @@ use Rattle.stamps.proofs.Order.{greater-bits}
 use Rattle.stamps.proofs.greatest.Statement.{statement}
 use Rattle.stamps.proofs.greatest.Tie as tie
 
-compare-requires : tie.Need-compare-requires
-compare-requires c κs = search needs
-
 returns : tie.Need-returns
 unfolding greatestOf
 returns c = rw (sym (greater-bits _ _ (c .before .compare .ensures)) ∙ eq-eqb _ _ (c .if1 .taken))
@@ -19,4 +16,4 @@ unfolding greatestOf
 returns-2 c = rw (sym (greater-bits _ _ (c .before .compare .ensures)) ∙ ne-eqb _ _ (c .if1 .left))
 
 pub greatest-spec : {M : Type 1} → statement M
-greatest-spec = tie.close (tie.spec compare-requires returns returns-2)
+greatest-spec = tie.close (tie.spec (λ c κs. search needs) returns returns-2)

@@ -4,11 +4,8 @@ use Rattle.stamps.proofs.Order.{same-bits}
 use Rattle.stamps.proofs.same.Statement.{statement}
 use Rattle.stamps.proofs.same.Tie as tie
 
-compare-requires : tie.Need-compare-requires
-compare-requires c κs = search needs
-
 returns : tie.Need-returns
 returns c = same-bits _ _ (c .compare .ensures)
 
 pub same-spec : {M : Type 1} → statement M
-same-spec = tie.close (tie.spec compare-requires returns)
+same-spec = tie.close (tie.spec (λ c κs. search needs) returns)
