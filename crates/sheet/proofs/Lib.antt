@@ -3,3 +3,4 @@ pub mod Checking
 pub mod Walk
 pub mod Writing
 pub mod Back
+pub mod Held

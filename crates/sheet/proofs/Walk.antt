@@ -1,20 +1,21 @@
--- The code's answer is the rules' reading of the same bytes, and a loop over positions goes through an accepted sheet's list of steps.
+-- The code's answer is the rules' reading of the same bytes, and a reader goes through an accepted sheet's list of steps.
 -- Assumes nothing.
 use mathlib.Core.Path.{_≡_, refl, sym, ap, _∙_}
 use mathlib.Core.Bool.{Bool, true, false, not, _||_}
-use mathlib.Core.List.{List}
-use Prim.Native.Nat.{ℕ, zero, suc, _+_, _-_, _*_, _%_, _≤_, _<_}
+use mathlib.Core.List.{List, [], _∷_}
+use Prim.Native.Nat.{ℕ, zero, suc, _+_, _-_, _/_, _%_, _≤_, _<_}
 use native.Mathlib.Omega.{arith}
-use lib.Dec.{eqb, ltb}
+use lib.Dec.{eqb, leb, ltb}
 use lib.ListN.{length, getD, drop}
 use lib.Seq.{drop-drop}
-use borrow.Author.Tests.{ltb-false, eqb-true, eqb-false, not-false}
+use borrow.Author.Tests.{leb-true, leb-false, ltb-false, eqb-true, eqb-false, not-false}
 use Rattle.views.proofs.Truth.{neither-true}
 use Rattle.rules.specs.Sets.{if_then_else_}
 use Rattle.rules.specs.declared.Step.{Step}
 use Rattle.rules.specs.Sheets.{bad, sheet, stepIn, stepsIn, marked, allZerosIn, stepsOf, badSheet, sheetIn}
 use Rattle.sheet.specs.declared.Found.the-variants.{At, End}
-use Rattle.sheet.specs.Reading.{checkOf, readOf, stepAt, afterOf}
+use Rattle.sheet.specs.declared.reader.Taken.{Taken}
+use Rattle.sheet.specs.Reading.{checkOf, readOf, takenAt, stepsFrom}
 use Rattle.sheet.proofs.Reading.{step-none, step-some, after-some}
 use Rattle.sheet.proofs.Checking.{refused}
 
@@ -47,14 +48,6 @@ unfolding stepsIn
 steps-count zero b = refl
 steps-count (suc n) b = ap suc (steps-count n (drop 8 b))
 
-steps-at : (n i : ℕ) (b : List ℕ) (d : Step) → i < n → getD (stepsIn n b) i d ≡ stepIn (drop (8 * i) b)
-unfolding stepsIn
-steps-at zero i b d h = absurd (omega arith)
-steps-at (suc n) zero b d h = refl
-steps-at (suc n) (suc i) b d h =
-    let more : 8 * suc i ≡ 8 + 8 * i = omega arith in
-    steps-at n i (drop 8 b) d (omega arith) ∙ ap stepIn (drop-drop (8 * i) 8 b ∙ ap (λ (k : ℕ). drop k b) (sym more))
-
 -- "under six bytes", "mask 0", "a part step" and "over 8,000 steps" are not so
 pub record Sound (b : List ℕ) : Type 0 where
   pub head : 6 ≤ length b
@@ -83,16 +76,50 @@ module _ (b : List ℕ) (mask : ℕ) (ks : List Step) (a : Accepted b mask ks) w
   pub count : stepsOf b ≡ length ks
   count = sym (steps-count (stepsOf b) (drop 6 b)) ∙ ap length (a .steps)
 
-  pub long : length b ≡ 6 + 8 * length ks
-  long = omega (arith, count, sound b (a .good))
+  -- its list is what is read from the front
+  pub front : stepsFrom b 6 ≡ ks
+  unfolding stepsFrom
+  front = a .steps
 
-  pub step-th : (i : ℕ) (d : Step) → i < length ks → stepAt b (6 + 8 * i) ≡ At (getD ks i d)
-  step-th i d h =
-      step-some b (6 + 8 * i) (omega (arith, long))
-      ∙ ap At (ap stepIn (sym (drop-drop (8 * i) 6 b)) ∙ sym (steps-at (stepsOf b) i (drop 6 b) d (rw count h)) ∙ ap (λ (l : List Step). getD l i d) (a .steps))
+-- ---- any bytes, read from a position on: the step that is read is the first of those left, and past it are the others; at the end none is left
 
-  pub after-th : (i : ℕ) → i < length ks → afterOf b (6 + 8 * i) ≡ 6 + 8 * (i + 1)
-  after-th i h = after-some b (6 + 8 * i) (omega (arith, long)) ∙ omega arith
+module _ (b : List ℕ) (at : ℕ) where
+  from-some : at + 8 ≤ length b → stepsFrom b at ≡ stepIn (drop at b) ∷ stepsFrom b (at + 8)
+  unfolding stepsFrom stepsIn
+  from-some h =
+      let more : (length b - at) / 8 ≡ suc ((length b - (at + 8)) / 8) = omega arith in
+      rw (more, drop-drop 8 at b)
 
-  pub step-end : stepAt b (6 + 8 * length ks) ≡ End
-  step-end = step-none b (6 + 8 * length ks) (omega (arith, long))
+  from-none : length b < at + 8 → stepsFrom b at ≡ []
+  unfolding stepsFrom stepsIn
+  from-none h =
+      let none : (length b - at) / 8 ≡ 0 = omega arith in
+      rw none
+
+  module _ (t : Taken) (e : t ≡ takenAt b at) where
+    pub taken-step : (k : Step) → t .found ≡ At k → stepsFrom b at ≡ k ∷ stepsFrom b (t .at)
+    unfolding takenAt
+    taken-step k f = go (leb (at + 8) (length b)) refl
+      where
+        go : (x : Bool) → leb (at + 8) (length b) ≡ x → stepsFrom b at ≡ k ∷ stepsFrom b (t .at)
+        go true g =
+            let room : at + 8 ≤ length b = leb-true (at + 8) (length b) g in
+            let found : At (stepIn (drop at b)) ≡ At k = sym (step-some b at room) ∙ ap (λ (a : Taken). a .found) (sym e) ∙ f in
+            let is : stepIn (drop at b) ≡ k = cc in
+            let past : t .at ≡ at + 8 = ap (λ (a : Taken). a .at) e ∙ after-some b at room in
+            rw (is, ← past) at (from-some room)
+        go false g =
+            let found = sym (step-none b at (leb-false (at + 8) (length b) g)) ∙ ap (λ (a : Taken). a .found) (sym e) ∙ f in
+            let z : _≡_ {A = ℕ} 0 1 = cc in
+            absurd (omega arith)
+
+    pub taken-end : t .found ≡ End → stepsFrom b at ≡ []
+    unfolding takenAt
+    taken-end f = go (leb (at + 8) (length b)) refl
+      where
+        go : (x : Bool) → leb (at + 8) (length b) ≡ x → stepsFrom b at ≡ []
+        go true g =
+            let found = sym (step-some b at (leb-true (at + 8) (length b) g)) ∙ ap (λ (a : Taken). a .found) (sym e) ∙ f in
+            let z : _≡_ {A = ℕ} 0 1 = cc in
+            absurd (omega arith)
+        go false g = from-none (leb-false (at + 8) (length b) g)

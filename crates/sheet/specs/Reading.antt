@@ -1,14 +1,16 @@
 -- What the code finds in a sheet's bytes, by the rules of crate `rules`, Sheets. Assumes nothing.
 use mathlib.Core.Bool.{true, false}
 use mathlib.Core.List.{List}
-use Prim.Native.Nat.{ℕ, _+_}
+use Prim.Native.Nat.{ℕ, _+_, _-_, _/_}
 use lib.Dec.{leb}
 use lib.ListN.{length, getD, drop}
 use Rattle.rules.specs.Sets.{if_then_else_}
+use Rattle.rules.specs.declared.Step.{Step}
 use Rattle.rules.specs.Sheets.{Sheet as Read, bad, sheet, stepIn, stepsIn, stepsOf, badSheet}
 use Rattle.sheet.specs.declared.Sheet.{Sheet}
 use Rattle.sheet.specs.declared.Found.{Found}
 use Rattle.sheet.specs.declared.Found.the-variants.{At, End}
+use Rattle.sheet.specs.declared.reader.Taken.{Taken}
 
 -- a sheet that is bad has no mask and no steps
 unfoldable pub checkOf : List ℕ → Sheet
@@ -27,3 +29,11 @@ stepAt b at = if leb (at + 8) (length b) then At (stepIn (drop at b)) else End
 -- the position past it; at the end the same
 unfoldable pub afterOf : List ℕ → ℕ → ℕ
 afterOf b at = if leb (at + 8) (length b) then at + 8 else at
+
+-- both
+unfoldable pub takenAt : List ℕ → ℕ → Taken
+takenAt b at = record { found = stepAt b at; at = afterOf b at }
+
+-- all steps from a position on; a part step at the end is none
+unfoldable pub stepsFrom : List ℕ → ℕ → List Step
+stepsFrom b at = stepsIn ((length b - at) / 8) (drop at b)

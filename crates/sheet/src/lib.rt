@@ -16,11 +16,13 @@ ghost use Rattle.rules.specs.Sheets.{mark, marked, allZerosIn, stepBytes, steps
 ghost use Rattle.sheet.specs.Reading.{checkOf, stepAt, afterOf};
 ghost use Rattle.sheet.specs.Writing.{listed, writtenOf, leftOf};
 
+pub mod reader; // a sheet's bytes and a position, moved on step by step
+
 // "the three bytes `ARS`, version 0x0001"
 const MARK: [u8; 5] = [65, 82, 83, 0, 1];
 
 // Mark, version and mask; one step; "over 8,000 steps"
-const HEAD: usize = 6;
+pub const HEAD: usize = 6;
 
 const STEP: usize = 8;
 

@@ -6,21 +6,6 @@ use Rattle.record.proofs.Laying.{printed-first, printed-then, printed-a
 use Rattle.record.proofs.put_start.Statement.{statement}
 use Rattle.record.proofs.put_start.Tie as tie
 
-slice-aggregate-put-word : tie.Need-slice-aggregate-put-word
-slice-aggregate-put-word c = search needs
-
-put-word-requires : tie.Need-put-word-requires
-put-word-requires c κs = search needs
-
-slice-aggregate-put-line : tie.Need-slice-aggregate-put-line
-slice-aggregate-put-line c = search needs
-
-put-line-requires : tie.Need-put-line-requires
-put-line-requires c κs = search needs
-
-same-length : tie.Need-same-length
-same-length c = search needs
-
 returns : tie.Need-returns
 returns c =
     let line = c .before .before in
@@ -28,12 +13,4 @@ returns c =
     printed-as _ refl (printed-then _ _ (printed-first _ (word .put-word .ensures)) (omega arith) (line .put-line .ensures))
 
 pub put-start-spec : {M : Type 1} → statement M
-put-start-spec =
-    tie.close
-    (tie.spec
-    slice-aggregate-put-word
-    put-word-requires
-    slice-aggregate-put-line
-    put-line-requires
-    same-length
-    returns)
+put-start-spec = tie.close (tie.spec (λ c. search needs) (λ c κs. search needs) (λ c. search needs) (λ c κs. search needs) (λ c. search needs) returns)

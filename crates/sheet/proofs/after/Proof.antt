@@ -9,9 +9,6 @@ use Rattle.sheet.proofs.Reading.{after-none, after-some}
 use Rattle.sheet.proofs.after.Statement.{statement}
 use Rattle.sheet.proofs.after.Tie as tie
 
-has-room-requires : tie.Need-has-room-requires
-has-room-requires c κs = search needs
-
 add-result : tie.Need-add-result
 add-result c =
     let a = c .before .before .before .args in
@@ -25,4 +22,4 @@ returns-2 : tie.Need-returns-2
 returns-2 c = sym (after-none _ _ (leb-false _ _ (sym (c .before .has-room .ensures) ∙ c .if1 .left)))
 
 pub after-spec : {M : Type 1} → statement M
-after-spec = tie.close (tie.spec has-room-requires add-result returns returns-2)
+after-spec = tie.close (tie.spec (λ c κs. search needs) add-result returns returns-2)

@@ -10,29 +10,14 @@ use Rattle.sheet.proofs.check.Tie as tie
 returns : tie.Need-returns
 returns c = bad-short _ (omega arith)
 
-is-marked-requires : tie.Need-is-marked-requires
-is-marked-requires c κs = search needs
-
 returns-2 : tie.Need-returns-2
 returns-2 c = bad-mark _ (sym (c .before .is-marked .ensures) ∙ not-true _ (c .if2 .taken))
-
-byte-at-requires : tie.Need-byte-at-requires
-byte-at-requires c κs = search needs
 
 returns-3 : tie.Need-returns-3
 returns-3 c = bad-mask _ (omega (arith, c .before .byte-at .ensures))
 
-sub-if4 : tie.Need-sub-if4
-sub-if4 c = search needs
-
 returns-4 : tie.Need-returns-4
 returns-4 c = bad-part _ (λ z. c .if4 .taken (omega arith))
-
-sub-steps : tie.Need-sub-steps
-sub-steps c = search needs
-
-is-blank-requires : tie.Need-is-blank-requires
-is-blank-requires c κs = search needs
 
 returns-5 : tie.Need-returns-5
 returns-5 c = bad-bytes _ (sym (c .before .is-blank .ensures) ∙ not-true _ (c .if5 .taken))
@@ -55,18 +40,4 @@ returns-7 c =
     (omega arith)
 
 pub check-spec : {M : Type 1} → statement M
-check-spec =
-    tie.close
-    (tie.spec
-    returns
-    is-marked-requires
-    returns-2
-    byte-at-requires
-    returns-3
-    sub-if4
-    returns-4
-    sub-steps
-    is-blank-requires
-    returns-5
-    returns-6
-    returns-7)
+check-spec = tie.close (tie.spec returns (λ c κs. search needs) returns-2 (λ c κs. search needs) returns-3 (λ c. search needs) returns-4 (λ c. search needs) (λ c κs. search needs) returns-5 returns-6 returns-7)

@@ -6,42 +6,6 @@ use Rattle.rows.proofs.Laws.{put-first, put-then}
 use Rattle.sheet.proofs.put_head.Statement.{statement}
 use Rattle.sheet.proofs.put_head.Tie as tie
 
-array-read-put-byte : tie.Need-array-read-put-byte
-array-read-put-byte c = search needs
-
-put-byte-requires : tie.Need-put-byte-requires
-put-byte-requires c κs = search needs
-
-array-read-put-byte-2 : tie.Need-array-read-put-byte-2
-array-read-put-byte-2 c = search needs
-
-put-byte-requires-2 : tie.Need-put-byte-requires-2
-put-byte-requires-2 c κs = search needs
-
-array-read-put-byte-3 : tie.Need-array-read-put-byte-3
-array-read-put-byte-3 c = search needs
-
-put-byte-requires-3 : tie.Need-put-byte-requires-3
-put-byte-requires-3 c κs = search needs
-
-array-read-put-byte-4 : tie.Need-array-read-put-byte-4
-array-read-put-byte-4 c = search needs
-
-put-byte-requires-4 : tie.Need-put-byte-requires-4
-put-byte-requires-4 c κs = search needs
-
-array-read-put-byte-5 : tie.Need-array-read-put-byte-5
-array-read-put-byte-5 c = search needs
-
-put-byte-requires-5 : tie.Need-put-byte-requires-5
-put-byte-requires-5 c κs = search needs
-
-put-byte-requires-6 : tie.Need-put-byte-requires-6
-put-byte-requires-6 c κs = search needs
-
-same-length : tie.Need-same-length
-same-length c = search needs
-
 returns : tie.Need-returns
 returns c =
     let c6 = c .before .before in
@@ -59,19 +23,4 @@ returns c =
     p6 .is
 
 pub put-head-spec : {M : Type 1} → statement M
-put-head-spec =
-    tie.close
-    (tie.spec
-    array-read-put-byte
-    put-byte-requires
-    array-read-put-byte-2
-    put-byte-requires-2
-    array-read-put-byte-3
-    put-byte-requires-3
-    array-read-put-byte-4
-    put-byte-requires-4
-    array-read-put-byte-5
-    put-byte-requires-5
-    put-byte-requires-6
-    same-length
-    returns)
+put-head-spec = tie.close (tie.spec (λ c. search needs) (λ c κs. search needs) (λ c. search needs) (λ c κs. search needs) (λ c. search needs) (λ c κs. search needs) (λ c. search needs) (λ c κs. search needs) (λ c. search needs) (λ c κs. search needs) (λ c κs. search needs) (λ c. search needs) returns)

@@ -11,30 +11,6 @@ use Rattle.sheet.proofs.Writing.{step-bytes}
 use Rattle.sheet.proofs.put_step.Statement.{statement}
 use Rattle.sheet.proofs.put_step.Tie as tie
 
-put-byte-requires : tie.Need-put-byte-requires
-put-byte-requires c κs = search needs
-
-add-put-byte : tie.Need-add-put-byte
-add-put-byte c = search needs
-
-put-byte-requires-2 : tie.Need-put-byte-requires-2
-put-byte-requires-2 c κs = search needs
-
-add-put-u16 : tie.Need-add-put-u16
-add-put-u16 c = search needs
-
-put-u16-requires : tie.Need-put-u16-requires
-put-u16-requires c κs = search needs
-
-add-put-u32 : tie.Need-add-put-u32
-add-put-u32 c = search needs
-
-put-u32-requires : tie.Need-put-u32-requires
-put-u32-requires c κs = search needs
-
-same-length : tie.Need-same-length
-same-length c = search needs
-
 returns : tie.Need-returns
 returns c =
     let c4 = c .before .before in
@@ -49,15 +25,4 @@ returns c =
     value .is ∙ ap (λ (t : List ℕ). placed (a .buf .now) (a .at) t) (step-bytes (a .step))
 
 pub put-step-spec : {M : Type 1} → statement M
-put-step-spec =
-    tie.close
-    (tie.spec
-    put-byte-requires
-    add-put-byte
-    put-byte-requires-2
-    add-put-u16
-    put-u16-requires
-    add-put-u32
-    put-u32-requires
-    same-length
-    returns)
+put-step-spec = tie.close (tie.spec (λ c κs. search needs) (λ c. search needs) (λ c κs. search needs) (λ c. search needs) (λ c κs. search needs) (λ c. search needs) (λ c κs. search needs) (λ c. search needs) returns)

@@ -31,23 +31,8 @@ shared-slice-read-t11 c = inside (c .before) .0
 shared-slice-read-t13 : tie.Need-shared-slice-read-t13 Inv-loop μ-loop
 shared-slice-read-t13 c = inside (c .before .before) .1
 
-mul-t14 : tie.Need-mul-t14 Inv-loop μ-loop
-mul-t14 c = search needs
-
 shared-slice-read-t16 : tie.Need-shared-slice-read-t16 Inv-loop μ-loop
 shared-slice-read-t16 c = inside (c .before .before .before) .2
-
-put-step-requires : tie.Need-put-step-requires Inv-loop μ-loop
-put-step-requires c κs = search needs
-
-add-at : tie.Need-add-at Inv-loop μ-loop
-add-at c = search needs
-
-add-i : tie.Need-add-i Inv-loop μ-loop
-add-i c = search needs
-
-loop-less : tie.Need-loop-less Inv-loop μ-loop
-loop-less c = search needs
 
 loop-again : tie.Need-loop-again Inv-loop μ-loop
 loop-again c =
@@ -56,27 +41,8 @@ loop-again c =
     let start = turn .before .before .before .before .before .before in
     left-more _ _ _ _ (turn .before .loop .inv) (omega (arith, start .pre .0)) (omega (arith, start .pre .0)) (wrote .put-step .ensures)
 
-same-length : tie.Need-same-length Inv-loop μ-loop
-same-length c = search needs
-
 returns : tie.Need-returns Inv-loop μ-loop
 returns c = left-none (c .before .loop .inv) (omega (arith, c .before .before .before .before .before .before .pre .0))
 
 pub put-steps-spec : {M : Type 1} → statement M
-put-steps-spec =
-    tie.close
-    (tie.spec
-    Inv-loop
-    μ-loop
-    loop-holds
-    shared-slice-read-t11
-    shared-slice-read-t13
-    mul-t14
-    shared-slice-read-t16
-    put-step-requires
-    add-at
-    add-i
-    loop-less
-    loop-again
-    same-length
-    returns)
+put-steps-spec = tie.close (tie.spec Inv-loop μ-loop loop-holds shared-slice-read-t11 shared-slice-read-t13 (λ c. search needs) shared-slice-read-t16 (λ c κs. search needs) (λ c. search needs) (λ c. search needs) (λ c. search needs) loop-again (λ c. search needs) returns)

@@ -14,26 +14,14 @@ use Rattle.sheet.proofs.step_at.Tie as tie
 space : (c : tie.Else1) → let a = c .before .before .before .args in a .at + 8 ≤ length (a .b .now)
 space c = room (c .before .has-room .ensures) (c .if1 .left)
 
-has-room-requires : tie.Need-has-room-requires
-has-room-requires c κs = search needs
-
 returns : tie.Need-returns
 returns c = sym (step-none _ _ (leb-false _ _ (sym (c .before .has-room .ensures) ∙ not-true _ (c .if1 .taken))))
-
-byte-at-requires : tie.Need-byte-at-requires
-byte-at-requires c κs = search needs
 
 add-byte-at : tie.Need-add-byte-at
 add-byte-at c = omega (arith, space (c .before))
 
-byte-at-requires-2 : tie.Need-byte-at-requires-2
-byte-at-requires-2 c κs = search needs
-
 add-read-u32 : tie.Need-add-read-u32
 add-read-u32 c = omega (arith, space (c .before .before))
-
-read-u32-requires : tie.Need-read-u32-requires
-read-u32-requires c κs = search needs
 
 returns-2 : tie.Need-returns-2
 returns-2 c =
@@ -46,14 +34,4 @@ returns-2 c =
     (λ i. At (record { kind = kind i; id = id i; value = value i })) ∙ sym (step-some _ _ (space (c2 .before)))
 
 pub step-at-spec : {M : Type 1} → statement M
-step-at-spec =
-    tie.close
-    (tie.spec
-    has-room-requires
-    returns
-    byte-at-requires
-    add-byte-at
-    byte-at-requires-2
-    add-read-u32
-    read-u32-requires
-    returns-2)
+step-at-spec = tie.close (tie.spec (λ c κs. search needs) returns (λ c κs. search needs) add-byte-at (λ c κs. search needs) add-read-u32 (λ c κs. search needs) returns-2)

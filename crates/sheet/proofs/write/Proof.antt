@@ -16,9 +16,6 @@ few c =
     let a = c .before .before .before .before .before .before .args in
     ltb-false 8000 n (neither-true (eqb (a .mask) 0) (ltb 8000 n) (c .if1 .left) .1)
 
-count-requires : tie.Need-count-requires
-count-requires c κs = search needs
-
 returns : tie.Need-returns
 returns c = bad _ _ _ (c .before .count .ensures) (c .if1 .taken)
 
@@ -30,15 +27,6 @@ add-size c = omega (arith, few c)
 
 returns-2 : tie.Need-returns-2
 returns-2 c = roomless _ _ _ (c .before .before .count .ensures) (c .before .if1 .left) (c .if2 .taken)
-
-put-head-requires : tie.Need-put-head-requires
-put-head-requires c κs = search needs
-
-put-steps-requires : tie.Need-put-steps-requires
-put-steps-requires c κs = search needs
-
-same-length : tie.Need-same-length
-same-length c = search needs
 
 returns-3 : tie.Need-returns-3
 returns-3 c =
@@ -54,15 +42,4 @@ returns-3 c =
     (done _ _ ks n good room, left _ _ ks n good room _ _ (head .put-head .ensures) (steps .put-steps .ensures))
 
 pub write-spec : {M : Type 1} → statement M
-write-spec =
-    tie.close
-    (tie.spec
-    count-requires
-    returns
-    mul-size
-    add-size
-    returns-2
-    put-head-requires
-    put-steps-requires
-    same-length
-    returns-3)
+write-spec = tie.close (tie.spec (λ c κs. search needs) returns mul-size add-size returns-2 (λ c κs. search needs) (λ c κs. search needs) (λ c. search needs) returns-3)
