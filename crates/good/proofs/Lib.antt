@@ -1,7 +1,6 @@
 pub mod Tests
 pub mod Held
-pub mod Bodies
-pub mod Places
+pub mod Messages
 pub mod Filled
 pub mod Rows
 pub mod World

@@ -90,8 +90,3 @@ module _ (m : Message) (p : Plain (m .body)) where
   pub plain-bytes : rowBytes (messageRow m) ≡ placeBytes (waiting (messageOf m))
   unfolding placeBytes
   plain-bytes = ap rowBytes plain-row
-
--- a row that is the row of a message is written as its place
-pub written-as : (m : Message) (x : rules.Message) → messageRow m ≡ bodyRow (x .from) (x .to) (x .body) → rowBytes (messageRow m) ≡ placeBytes (waiting x)
-unfolding placeBytes
-written-as m x e = ap rowBytes e

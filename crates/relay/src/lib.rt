@@ -13,6 +13,7 @@ ghost use Rattle.state.specs.Meaning.{transferOf, partOf, bodyOf};
 ghost use Rattle.state.specs.Plans.{turnOf, turned, planOf, planned};
 ghost use Rattle.generator.specs.Heard.{heardInRow};
 ghost use Rattle.relay.specs.Fitting.{showsView, showsBoth, ifFitting, joinAnswer, timerAnswer, hearsAnswer};
+ghost use Rattle.relay.specs.Serving.{servedBy};
 use stamps::Pair;
 use state::Body;
 use state::Event;
@@ -243,9 +244,9 @@ fn state_heard(p: Part, from: u8, o: u16, w: u16, pair: Pair, updates: u16) -> P
 
 // ---- gets and puts
 
-// "If inside: reply with the own view. If equal: Get replies stamp and value;"
-fn get_heard(p: Part, from: u8, tries: u16, c: u16) -> Plan
-    ensures { λ r. ⌜ planOf r ≡ planned noRelay (ifFitting (ltb from 12) (rules.getHeard (partOf p) from tries c)) ⌝ }
+// "NOT YET unless active and c equals the own view or is inside it. If inside: reply with the own view." If equal, the relay is `next`, and `reply` goes out.
+fn served(p: Part, next: Part, from: u8, tries: u16, c: u16, reply: Body) -> Plan
+    ensures { λ r. ⌜ planOf r ≡ planned noRelay (ifFitting (ltb from 12) (servedBy (partOf p) (partOf next) from tries c (bodyOf reply))) ⌝ }
 {
     if 12 <= from {
         return parts::refuses(2);
@@ -257,34 +258,28 @@ fn get_heard(p: Part, from: u8, tries: u16, c: u16) -> Plan
     if views::inside(c, v) {
         return parts::sends(p, messages::to_one(from, messages::view_reply(tries, v)));
     }
+    parts::sends(next, messages::to_one(from, reply))
+}
+
+// "If equal: Get replies stamp and value;"
+fn get_heard(p: Part, from: u8, tries: u16, c: u16) -> Plan
+    ensures { λ r. ⌜ planOf r ≡ planned noRelay (ifFitting (ltb from 12) (rules.getHeard (partOf p) from tries c)) ⌝ }
+{
     let holds = p.head.holds;
-    parts::sends(
-        p,
-        messages::to_one(from, messages::pair_reply(tries, holds)),
-    )
+    served(p, p, from, tries, c, messages::pair_reply(tries, holds))
 }
 
 // "Put stores if its stamp is greater, and acknowledges either way."
 fn put_heard(p: Part, from: u8, tries: u16, c: u16, pair: Pair) -> Plan
     ensures { λ r. ⌜ planOf r ≡ planned noRelay (ifFitting (ltb from 12) (rules.putHeard (partOf p) from tries c pair)) ⌝ }
 {
-    if 12 <= from {
-        return parts::refuses(2);
-    }
-    if !transfers::serves(p, c) {
-        return parts::refuses(6);
-    }
-    let v = p.head.view;
-    if views::inside(c, v) {
-        return parts::sends(p, messages::to_one(from, messages::view_reply(tries, v)));
-    }
     let held = p.head.holds;
     let best = stamps::greatest(held, pair);
     let mut head = p.head;
     head.holds = best;
     let mut next = p;
     next.head = head;
-    parts::sends(next, messages::to_one(from, messages::ack(tries)))
+    served(p, next, from, tries, c, messages::ack(tries))
 }
 
 // ---- a message

@@ -2,7 +2,7 @@
 use mathlib.Core.List.{List}
 use Prim.Native.Nat.{ℕ}
 use lib.ListN.{getD}
-use Rattle.rules.specs.Messages.{Sending, ack, Event, nothing, Refusal, number, Answer, refused, does}
+use Rattle.rules.specs.Messages.{Sending, ack, Event, nothing, number, Answer, refused, does}
 use Rattle.rules.specs.State.{Relay, Generator}
 use Rattle.rules.specs.declared.Desk.{Desk}
 use Rattle.rules.specs.Generators.{Turn}

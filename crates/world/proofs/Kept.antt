@@ -17,11 +17,10 @@ use Rattle.rules.proofs.ImageFits.{replicate-at}
 use Rattle.rules.proofs.ImageChange.{changed-add}
 use Rattle.state.specs.declared.Transfer.{Transfer}
 use Rattle.state.specs.declared.Body.{Body}
-use Rattle.state.specs.declared.Message.{Message}
-use Rattle.state.specs.Meaning.{transferOf, bodyOf, messageOf}
+use Rattle.state.specs.Meaning.{transferOf, bodyOf}
 use Rattle.messages.specs.Made.{fieldsOf}
-use Rattle.image.specs.Parts.{addressedRow, messageRow}
-use Rattle.image.proofs.Parts.{made-means, made-plain, plain-bytes}
+use Rattle.image.specs.Parts.{messageRow}
+use Rattle.good.proofs.Messages.{plain-place}
 use Rattle.world.specs.Commits.{keptRows, message}
 use Rattle.world.proofs.Lists.{those-more, those-same}
 
@@ -106,8 +105,5 @@ map-set {B = B} f (y ∷ l) (suc i) x = ap (λ (m : List B). f y ∷ m) (map-set
 
 pub message-bytes : (from to : ℕ) (b plain : Body) → fieldsOf plain ≡ bodyRow 0 0 (bodyOf b)
     → rowBytes (messageRow (record { from = from; to = to; body = plain })) ≡ placeBytes (waiting (message from (bodyOf b) to))
-unfolding messageOf message
-message-bytes from to b plain e =
-    let m : Message = record { from = from; to = to; body = plain } in
-    let is : addressedRow 0 0 plain ≡ bodyRow 0 0 (bodyOf b) = unfold addressedRow fieldsOf in e in
-    plain-bytes m (made-plain plain (bodyOf b) is) ∙ rw (made-means plain (bodyOf b) is)
+unfolding message
+message-bytes = plain-place

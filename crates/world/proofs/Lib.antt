@@ -15,4 +15,6 @@ pub mod Commit
 pub mod Routes
 pub mod Begun
 pub mod Keeps
+pub mod Moves
+pub mod Lengths
 pub mod Playing

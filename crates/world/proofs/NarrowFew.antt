@@ -4,22 +4,23 @@ use mathlib.Core.Bool.{_&&_}
 use mathlib.Core.List.{List, [], _∷_, _++_, append-nil}
 use Prim.Native.Nat.{ℕ, _≤_}
 use native.Mathlib.Omega.{arith}
-use lib.Dec.{lit≤}
+use lib.Dec.{eqb, lit≤}
 use lib.ListN.{length}
 use Rattle.views.proofs.Truth.{cases}
-use Rattle.rules.specs.Sets.{those, inside, reaches}
+use Rattle.rules.specs.Sets.{if_then_else_, those, inside, reaches}
 use Rattle.rules.specs.Stamps.{Pair}
 use Rattle.rules.specs.Messages.{Body, request, view, proposal, converged, install, state, get, put, viewReply, pairReply, ack, Sending, copies, outgoing, Event, Refusal, Answer, refused, does}
 use Rattle.rules.specs.State.{Relay}
 use Rattle.rules.specs.declared.Desk.{Desk}
 use Rattle.rules.specs.declared.Phase.{Phase}
 use Rattle.rules.specs.declared.Phase.the-variants.{Idle, Read1, Read2, Write1, Write2}
-use Rattle.rules.specs.Relays.{joinAsked, leaveAsked, timerRang, relayHears}
+use Rattle.rules.specs.Relays.{relayHears}
 use Rattle.rules.specs.Desks.{isIdle, isFirst, isSecond, full, begins, readAsked, writeAsked, current, viewCame, notesPair, notesAck, stamps, completes, counted, pairCame, ackCame, deskHears}
 use Rattle.state.specs.Plans.{noSending, sendingAt}
 use Rattle.world.specs.Narrow.{Move, widens}
-use Rattle.world.proofs.NarrowWide.{hears-wide, join-wide, leave-wide, timer-wide}
-use Rattle.world.proofs.NarrowLocal.{LocalAnswer, hears-local, join-local, leave-local, timer-local}
+use Rattle.world.specs.Commits.{relayAsked, deskAsked}
+use Rattle.world.proofs.NarrowWide.{hears-wide, asked-wide}
+use Rattle.world.proofs.NarrowLocal.{LocalAnswer, hears-local, asked-local}
 
 -- ---- what goes out
 
@@ -68,14 +69,8 @@ module _ (s : ℕ) (r : Relay) where
   pub hears-few : (from : ℕ) (b : Body) → Few 2 (relayHears s r from b)
   hears-few from b = few-wide r _ _ _ 2 _ _ (hears-wide s r from b) (hears-local r s from b)
 
-  pub join-few : Few 2 (joinAsked s r)
-  join-few = few-wide r _ _ _ 2 _ _ (join-wide s r) (join-local r s)
-
-  pub leave-few : Few 2 (leaveAsked s r)
-  leave-few = few-wide r _ _ _ 2 _ _ (leave-wide s r) (leave-local r s)
-
-pub timer-few : (r : Relay) → Few 2 (timerRang r)
-timer-few r = few-wide r _ _ _ 2 _ _ (timer-wide r) (timer-local r)
+  pub asked-few : (kind : ℕ) → Few 2 (relayAsked kind s r)
+  asked-few kind = few-wide r _ _ _ 2 _ _ (asked-wide kind s r) (asked-local r kind s)
 
 -- ---- desks
 
@@ -90,13 +85,12 @@ begins-few : (d : Desk) (ph : Phase) (v : ℕ) (p : Pair) → Once (begins d ph 
 unfolding begins
 begins-few d ph v p = cases (Few 1) (full (d .tries)) (λ _. refuses-few _) (λ _. few-does 1 _ _ _ (lit≤ tt))
 
-pub read-few : (d : Desk) → Once (readAsked d)
-unfolding readAsked
-read-few d = cases (Few 1) (isIdle (d .phase)) (λ _. begins-few d _ _ _) (λ _. refuses-few _)
+idle-few : (d : Desk) (ph : Phase) (v : ℕ) (p : Pair) (x : Refusal) → Once (if isIdle (d .phase) then begins d ph v p else refused x)
+idle-few d ph v p x = cases Once (isIdle (d .phase)) (λ _. begins-few d ph v p) (λ _. refuses-few x)
 
-pub write-few : (d : Desk) (x : ℕ) → Once (writeAsked d x)
-unfolding writeAsked
-write-few d x = cases (Few 1) (isIdle (d .phase)) (λ _. begins-few d _ _ _) (λ _. refuses-few _)
+pub desk-asked-few : (kind x : ℕ) (d : Desk) → Once (deskAsked kind x d)
+unfolding deskAsked readAsked writeAsked
+desk-asked-few kind x d = cases Once (eqb kind 5) (λ _. idle-few d _ _ _ _) (λ _. idle-few d _ _ _ _)
 
 quiet-few : (d : Desk) (e : Event) → Once (does d [] e)
 quiet-few d e = few-does 1 d [] e (lit≤ tt)

@@ -20,7 +20,7 @@ use Rattle.rules.proofs.Generators.{gen-tests, looked-up, view-of}
 use Rattle.rules.proofs.Relays.{Rel, rel-facts}
 use Rattle.generator.specs.Heard.{heardInRow}
 use Rattle.generator.proofs.Whole.{in-row-whole}
-use Rattle.relay.specs.Fitting.{fitting, joinAnswer, timerAnswer, hearsInRow, hearsAnswer}
+use Rattle.relay.specs.Fitting.{showsView, fitting, joinAnswer, timerAnswer, hearsInRow, hearsAnswer}
 use Rattle.world.specs.Narrow.{generatorOfBody, Move, move, moveOfBody, narrow}
 use Rattle.world.proofs.NarrowTable.{byView, byMove, part-keyed, find-part}
 
@@ -33,6 +33,10 @@ module _ (r : Relay) (v : ℕ) (m : Move) where
   pub shows-move : all (isFor (m .old) (m .new)) (narrow r v m .transfers) ≡ true
   unfolding narrow
   shows-move = part-keyed byMove m (r .transfers)
+
+pub shows-own : (r : Relay) → let p = narrow r (r .view) (move 0 0) in showsView (p .view) p ≡ true
+unfolding narrow
+shows-own r = shows-view r (r .view) (move 0 0)
 
 -- ---- fitting
 
@@ -96,6 +100,6 @@ pub join-fits : (s : ℕ) (r : Relay) → s < 8 → joinAnswer s r ≡ joinAsked
 unfolding joinAnswer
 join-fits s r l = rw (lt-ltb s 8 l)
 
-pub timer-fits : (r : Relay) (m : Move) → timerAnswer (narrow r (r .view) m) ≡ timerRang (narrow r (r .view) m)
-unfolding timerAnswer narrow
-timer-fits r m = rw (shows-view r (r .view) m)
+pub timer-fits : (r : Relay) → showsView (r .view) r ≡ true → timerAnswer r ≡ timerRang r
+unfolding timerAnswer
+timer-fits r h = rw h

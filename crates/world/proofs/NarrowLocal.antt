@@ -18,6 +18,7 @@ use Rattle.rules.specs.Relays.{atGenerator, joinAsked, leaveAsked, timerRang, r
 use Rattle.rules.proofs.Hold.{all-none, all-parts}
 use Rattle.rules.proofs.Generators.{view-of}
 use Rattle.world.specs.Narrow.{generatorOfBody, Move, move, moveOfBody, narrow}
+use Rattle.world.specs.Commits.{relayAsked}
 use Rattle.world.proofs.NarrowTurn.{Leaves, proposes-leaves, proposal-leaves, converged-leaves, keeps-move, gathers-move}
 use Rattle.world.proofs.NarrowTable.{byView, moved-by, byMove, freed-move, put-keyed, those-none}
 use Rattle.world.proofs.NarrowFits.{shows-view, shows-move}
@@ -240,17 +241,14 @@ module _ (r : Relay) where
   unfolding narrow
   hears-local s from b = hears-here s (narrow r (generatorOfBody b) (moveOfBody b)) from b (narrow-shows (generatorOfBody b) (moveOfBody b))
 
-  pub join-local : (s : ℕ) → LocalAnswer (r .view) 0 (move 0 0) 2 (joinAsked s (narrow r 0 (move 0 0)))
-  unfolding narrow
-  join-local s = join-here 0 (move 0 0) (narrow r 0 (move 0 0)) (narrow-shows 0 (move 0 0)) s
-
-  pub leave-local : (s : ℕ) → LocalAnswer (r .view) 0 (move 0 0) 2 (leaveAsked s (narrow r 0 (move 0 0)))
-  unfolding narrow
-  leave-local s = leave-here 0 (move 0 0) (narrow r 0 (move 0 0)) (narrow-shows 0 (move 0 0)) s
-
-  pub timer-local : LocalAnswer (r .view) (r .view) (move 0 0) 2 (timerRang (narrow r (r .view) (move 0 0)))
-  unfolding narrow
-  timer-local = timer-here (r .view) (move 0 0) (narrow r (r .view) (move 0 0)) (narrow-shows (r .view) (move 0 0)) refl
+  pub asked-local : (kind s : ℕ) → LocalAnswer (r .view) (r .view) (move 0 0) 2 (relayAsked kind s (narrow r (r .view) (move 0 0)))
+  unfolding relayAsked narrow
+  asked-local kind s =
+      let v = r .view in
+      let p = narrow r v (move 0 0) in
+      let h = narrow-shows v (move 0 0) in
+      let Here = LocalAnswer v v (move 0 0) 2 in
+      cases Here (eqb kind 1) (λ _. join-here v (move 0 0) p h s) (λ _. cases Here (eqb kind 2) (λ _. leave-here v (move 0 0) p h s) (λ _. timer-here v (move 0 0) p h refl))
 
 -- what an answer that is known says
 pub local-does : {x v k : ℕ} {m : Move} {a : Answer Relay} {n : Relay} {ss : List Sending} {e : Event} → LocalAnswer x v m k a → a ≡ does n ss e → Local x v m k n ss

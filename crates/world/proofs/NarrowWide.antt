@@ -16,6 +16,7 @@ use Rattle.rules.specs.Generators.{generatorFor, putGenerator, Turn, proposes, 
 use Rattle.rules.specs.Relays.{atGenerator, joinAsked, leaveAsked, timerRang, requestHeard, learns, isFor, putTransfer, passes, moved, onward, enters, tested, early, handed, takesInstall, sentFirst, installHeard, stateHeard, serves, getHeard, putHeard, relayHears}
 use Rattle.rules.proofs.Generators.{view-of}
 use Rattle.world.specs.Narrow.{generatorOfBody, Move, move, moveOfBody, withTables, narrow, putBackGenerator, widened, widens}
+use Rattle.world.specs.Commits.{relayAsked}
 use Rattle.world.proofs.NarrowTurn.{proposes-leaves, proposal-leaves, converged-leaves, keeps-move, gathers-move}
 use Rattle.world.proofs.NarrowTable.{byView, byMove, freed-move, find-part, put-back, part-back, put-dropped}
 
@@ -207,15 +208,9 @@ hears-wide s r from (viewReply try v) = does-wide r _ _ [] nothing (same-wide r 
 hears-wide s r from (pairReply try p) = does-wide r _ _ [] nothing (same-wide r 0 (move 0 0))
 hears-wide s r from (ack try) = does-wide r _ _ [] nothing (same-wide r 0 (move 0 0))
 
-module _ (s : ℕ) (r : Relay) where
-  pub join-wide : joinAsked s r ≡ widens r (joinAsked s (narrow r 0 (move 0 0)))
-  unfolding Wide
-  join-wide = join-is-wide r 0 (move 0 0) s
-
-  pub leave-wide : leaveAsked s r ≡ widens r (leaveAsked s (narrow r 0 (move 0 0)))
-  unfolding Wide
-  leave-wide = leave-is-wide r 0 (move 0 0) s
-
-pub timer-wide : (r : Relay) → timerRang r ≡ widens r (timerRang (narrow r (r .view) (move 0 0)))
-unfolding Wide
-timer-wide r = timer-is-wide r (r .view) (move 0 0) refl
+pub asked-wide : (kind s : ℕ) (r : Relay) → relayAsked kind s r ≡ widens r (relayAsked kind s (narrow r (r .view) (move 0 0)))
+unfolding relayAsked Wide
+asked-wide kind s r =
+    let v = r .view in
+    both (Wide r) (eqb kind 1) (λ _. join-is-wide r v (move 0 0) s)
+    (λ _. both (Wide r) (eqb kind 2) (λ _. leave-is-wide r v (move 0 0) s) (λ _. timer-is-wide r v (move 0 0) refl))

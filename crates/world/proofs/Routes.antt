@@ -1,19 +1,19 @@
 -- How a step is routed: which act it tells, which message a place holds, and what the acts are of their parts. Assumes nothing.
 use mathlib.Core.Path.{_≡_, refl, sym, ap, _∙_}
 use mathlib.Core.Logic.{_≢_, ⊎-elim}
-use mathlib.Core.Bool.{Bool, true, false, _&&_, and-false, and-eq-true-iff}
+use mathlib.Core.Bool.{Bool, true, false, _&&_, and-false, and-true, and-eq-true-iff}
 use mathlib.Core.List.{List}
-use Prim.Native.Nat.{ℕ, _+_, _*_, _-_, _≤_, _<_}
+use Prim.Native.Nat.{ℕ, zero, suc, _+_, _*_, _-_, _≤_, _<_}
 use native.Mathlib.Omega.{arith}
 use lib.Dec.{eqb, leb, ltb}
-use borrow.Author.Tests.{ne-eqb, lt-ltb, le-ltb, ltb-true}
+use borrow.Author.Tests.{ne-eqb, lt-ltb, le-ltb, ltb-true, leb-true}
 use Rattle.views.proofs.Truth.{decided, contrary, cases, either-true}
 use Rattle.views.proofs.Sets.{member-lt}
 use Rattle.rules.specs.Sets.{if_then_else_, member}
 use Rattle.rules.specs.Messages.{Body, request, view, proposal, converged, install, state, get, put, viewReply, pairReply, ack, Message, Answer, dead, empty, bad-step, bad-world}
 use Rattle.rules.specs.State.{Relay, Place, free, waiting, World, relayAt, deskAt, placeAt, withRelay, withDesk, crashedRelay, crashedDesk}
 use Rattle.rules.specs.declared.Desk as rules-desk
-use Rattle.rules.specs.Steps.{drop, Act, noReport, join, leave, timer, read, write, deliver, crash, bad, told, Outcome, relayDoes, deskDoes, aliveIn, ifAlive, freed, delivers, delivery, dropping, crashing, acts, stepped}
+use Rattle.rules.specs.Steps.{drop, Act, noReport, deliver, crash, bad, told, Outcome, relayDoes, deskDoes, aliveIn, ifAlive, freed, delivers, delivery, dropping, crashing, acts, stepped}
 use Rattle.rules.specs.declared.Step.{Step}
 use Rattle.rules.specs.Relays.{relayHears}
 use Rattle.rules.specs.Desks.{deskHears}
@@ -30,7 +30,7 @@ use Rattle.image.specs.Parts.{messageRow}
 use Rattle.image.proofs.Parts.{place-is}
 use Rattle.world.specs.Answer.{accepted}
 use Rattle.world.specs.Narrow.{generatorOfBody, move, moveOfBody, widens}
-use Rattle.world.specs.Commits.{freeRow, freedAt, delivered, relayLeft, deskLeft}
+use Rattle.world.specs.Commits.{freeRow, freedAt, delivered, relayLeft, deskLeft, relayAsked, relayAct, deskAsked, deskAct}
 use Rattle.world.proofs.Places.{isFree, free-row, is-free}
 use Rattle.world.proofs.Good.{place-at, good-place}
 
@@ -38,21 +38,20 @@ use Rattle.world.proofs.Good.{place-at, good-place}
 
 module _ (k : Step) where
   module _ (v : k .value ≡ 0) where
-    pub told-join : k .kind ≡ 1 → told k ≡ (if ltb (k .id) 8 then join (k .id) else bad)
-    unfolding told
-    told-join e = rw (e, v) (⊎-elim (λ t. rw t) (λ t. rw t) (decided (ltb (k .id) 8)))
+    pub told-relay : leb 1 (k .kind) && leb (k .kind) 3 ≡ true → told k ≡ relayAct (k .kind) (k .id)
+    unfolding told relayAct
+    told-relay h = let two = and-eq-true-iff (leb 1 (k .kind)) (leb (k .kind) 3) .0 h in go (k .kind) refl (leb-true 1 (k .kind) (two .0)) (leb-true (k .kind) 3 (two .1))
+      where
+        go : (n : ℕ) → k .kind ≡ n → 1 ≤ n → n ≤ 3 → told k ≡ relayAct n (k .id)
+        go zero e l h = absurd (omega arith)
+        go (suc zero) e l h = rw (e, v, and-true (ltb (k .id) 8))
+        go (suc (suc zero)) e l h = rw (e, v, and-true (ltb (k .id) 8))
+        go (suc (suc (suc zero))) e l h = rw (e, v, and-true (ltb (k .id) 8))
+        go (suc (suc (suc (suc n)))) e l h = absurd (omega arith)
 
-    pub told-leave : k .kind ≡ 2 → told k ≡ (if ltb (k .id) 8 then leave (k .id) else bad)
-    unfolding told
-    told-leave e = rw (e, v) (⊎-elim (λ t. rw t) (λ t. rw t) (decided (ltb (k .id) 8)))
-
-    pub told-timer : k .kind ≡ 3 → told k ≡ (if ltb (k .id) 8 then timer (k .id) else bad)
-    unfolding told
-    told-timer e = rw (e, v) (⊎-elim (λ t. rw t) (λ t. rw t) (decided (ltb (k .id) 8)))
-
-    pub told-read : k .kind ≡ 4 → told k ≡ (if ltb (k .id) 4 then read (k .id) else bad)
-    unfolding told
-    told-read e = rw (e, v) (⊎-elim (λ t. rw t) (λ t. rw t) (decided (ltb (k .id) 4)))
+    pub told-read : k .kind ≡ 4 → told k ≡ deskAct (k .kind) (k .id) 0
+    unfolding told deskAct
+    told-read e = rw (e, v, and-true (ltb (k .id) 4))
 
     pub told-deliver : k .kind ≡ 6 → k .id < 256 → told k ≡ deliver (k .id)
     unfolding told
@@ -64,21 +63,24 @@ module _ (k : Step) where
 
     pub told-crash : k .kind ≡ 8 → told k ≡ (if ltb (k .id) 12 then crash (k .id) else bad)
     unfolding told
-    told-crash e = rw (e, v) (⊎-elim (λ t. rw t) (λ t. rw t) (decided (ltb (k .id) 12)))
+    told-crash e = rw (e, v, and-true (ltb (k .id) 12))
 
-  pub told-write : k .kind ≡ 5 → k .value < 4294967296 → told k ≡ (if ltb (k .id) 4 then write (k .id) (k .value) else bad)
-  unfolding told
-  told-write e h = rw (e, lt-ltb (k .value) 4294967296 h) (⊎-elim (λ t. rw t) (λ t. rw t) (decided (ltb (k .id) 4)))
+  pub told-write : k .kind ≡ 5 → k .value < 4294967296 → told k ≡ deskAct (k .kind) (k .id) (k .value)
+  unfolding told deskAct
+  told-write e h = rw (e, lt-ltb (k .value) 4294967296 h, and-true (ltb (k .id) 4))
 
   -- "A value other than 0 belongs to WRITE only."
   pub told-valued : k .kind ≢ 5 → k .value ≢ 0 → told k ≡ bad
   unfolding told
   told-valued e v = simp (ne-eqb (k .kind) 5 e, ne-eqb (k .value) 0 v, and-false)
 
-  pub told-unkind : k .kind ≢ 1 → k .kind ≢ 2 → k .kind ≢ 3 → k .kind ≢ 4 → k .kind ≢ 5 → k .kind ≢ 6 → k .kind ≢ 7 → k .kind ≢ 8 → told k ≡ bad
+  pub told-unkind : leb 1 (k .kind) && leb (k .kind) 3 ≡ false → k .kind ≢ 4 → k .kind ≢ 5 → k .kind ≢ 6 → k .kind ≢ 7 → k .kind ≢ 8 → told k ≡ bad
   unfolding told
-  told-unkind a b c d e f g h =
-      simp (ne-eqb (k .kind) 1 a, ne-eqb (k .kind) 2 b, ne-eqb (k .kind) 3 c, ne-eqb (k .kind) 4 d, ne-eqb (k .kind) 5 e, ne-eqb (k .kind) 6 f, ne-eqb (k .kind) 7 g, ne-eqb (k .kind) 8 h)
+  told-unkind a d e f g h =
+      simp (ne-eqb (k .kind) 1 (not-at 1 refl), ne-eqb (k .kind) 2 (not-at 2 refl), ne-eqb (k .kind) 3 (not-at 3 refl), ne-eqb (k .kind) 4 d, ne-eqb (k .kind) 5 e, ne-eqb (k .kind) 6 f, ne-eqb (k .kind) 7 g, ne-eqb (k .kind) 8 h)
+    where
+      not-at : (n : ℕ) → leb 1 n && leb n 3 ≡ true → k .kind ≢ n
+      not-at n t q = contrary t (rw q at a)
 
 -- ---- an act of who is dead, and of who is alive
 
@@ -96,6 +98,16 @@ module _ (b : List ℕ) (who : ℕ) (o : Outcome) where
   pub alive-left : aliveIn (worldAt b) who ≡ true → left b o ≡ left b (ifAlive (worldAt b) who o)
   unfolding ifAlive
   alive-left e = rw e
+
+-- ---- what a kind asks of a relay, and of a desk
+
+pub relay-asked : (w : World) (kind s : ℕ) → s < 8 → acts w (relayAct kind s) ≡ ifAlive w s (relayDoes w 0 s (relayAsked kind s (relayAt w s)))
+unfolding acts relayAct relayAsked
+relay-asked w kind s h = rw (lt-ltb s 8 h) (⊎-elim (λ t. rw t) (λ t. rw t (⊎-elim (λ u. rw u) (λ u. rw u) (decided (eqb kind 2)))) (decided (eqb kind 1)))
+
+pub desk-asked : (w : World) (kind n x : ℕ) → n < 4 → acts w (deskAct kind n x) ≡ ifAlive w (8 + n) (deskDoes w 0 n (deskAsked kind x (deskAt w n)))
+unfolding acts deskAct deskAsked
+desk-asked w kind n x h = rw (lt-ltb n 4 h) (⊎-elim (λ t. rw t) (λ t. rw t) (decided (eqb kind 5)))
 
 -- ---- what is left of an answer that no delivery asked for
 

@@ -10,7 +10,9 @@ use Rattle.rules.specs.Sets.{if_then_else_, bit, those, inside}
 use Rattle.rules.specs.Messages.{Body, Message, Answer, refused, does}
 use Rattle.rules.specs.State.{Transfer, Relay, Place, free, waiting, noRelay, noDesk, World, relayAt, placeAt, startRelay, startDesk}
 use Rattle.rules.specs.declared.Desk.{Desk}
-use Rattle.rules.specs.Steps.{relayDoes, deskDoes, freed}
+use Rattle.rules.specs.Relays.{joinAsked, leaveAsked, timerRang}
+use Rattle.rules.specs.Desks.{readAsked, writeAsked}
+use Rattle.rules.specs.Steps.{Act, join, leave, timer, read, write, bad, relayDoes, deskDoes, freed}
 use Rattle.rules.specs.Image.{transferAt, worldAt}
 use Rattle.rules.specs.Lent.{Lent, left}
 use Rattle.world.specs.Narrow.{widens}
@@ -75,6 +77,22 @@ relayLeft b n p s a = left b (relayDoes (freedAt (worldAt b) p) n s (widens (rel
 
 unfoldable pub deskLeft : List ℕ → ℕ → ℕ → ℕ → Answer Desk → Lent
 deskLeft b n p d a = left b (deskDoes (freedAt (worldAt b) p) n d a)
+
+-- ---- asked: the rule, and the act, of a kind
+
+-- "1 JOIN relay, 2 LEAVE relay, 3 TIMER relay"
+unfoldable pub relayAsked : ℕ → ℕ → Relay → Answer Relay
+relayAsked kind s r = if eqb kind 1 then joinAsked s r else if eqb kind 2 then leaveAsked s r else timerRang r
+
+unfoldable pub relayAct : ℕ → ℕ → Act
+relayAct kind s = if ltb s 8 then (if eqb kind 1 then join s else if eqb kind 2 then leave s else timer s) else bad
+
+-- "4 READ desk, 5 WRITE desk value"
+unfoldable pub deskAsked : ℕ → ℕ → Desk → Answer Desk
+deskAsked kind x d = if eqb kind 5 then writeAsked d x else readAsked d
+
+unfoldable pub deskAct : ℕ → ℕ → ℕ → Act
+deskAct kind n x = if ltb n 4 then (if eqb kind 5 then write n x else read n) else bad
 
 -- ---- begun: the first n relays and m desks of a start are there
 

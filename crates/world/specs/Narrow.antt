@@ -1,5 +1,4 @@
 -- A rule at a relay sees its head, one generator and one transfer. What the rule does to that part is done to the whole relay. Assumes nothing.
-use mathlib.Core.Bool.{Bool}
 use mathlib.Core.List.{List, [], _∷_}
 use Prim.Native.Nat.{ℕ}
 use lib.Dec.{eqb}

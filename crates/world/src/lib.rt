@@ -2,32 +2,33 @@
 // so a refused step changes no byte.
 ghost use mathlib.Core.Path.{_≡_};
 ghost use mathlib.Core.Bool.{true};
-ghost use mathlib.Core.List.{List, []};
+ghost use mathlib.Core.List.{List};
 ghost use Prim.Native.Nat.{ℕ, _≤_, _<_};
 ghost use lib.Dec.{ltb};
 ghost use Rattle.rules.specs.Sets.{if_then_else_};
 ghost use Rattle.rules.specs.Messages as rules;
-ghost use Rattle.rules.specs.State.{Relay, noRelay, noDesk, waiting, placeAt, startRelay, startDesk};
+ghost use Rattle.rules.specs.State.{Relay, noRelay, noDesk, waiting, placeAt};
 ghost use Rattle.rules.specs.declared.Desk as code;
 ghost use Rattle.rules.specs.Steps as steps;
-ghost use Rattle.rules.specs.Image.{image, worldAt, goodBytes};
+ghost use Rattle.rules.specs.Image.{worldAt, goodBytes};
 ghost use Rattle.rules.specs.Lent as lent;
-ghost use Rattle.state.specs.Meaning.{relayOf, bodyOf, messageOf, eventOf};
+ghost use Rattle.state.specs.Meaning.{partOf, bodyOf, messageOf, eventOf};
 ghost use Rattle.state.specs.Plans.{planOf, deskPlanOf, planned};
+ghost use Rattle.relay.specs.Fitting.{showsView};
 ghost use Rattle.world.specs.Answer.{lentOf, accepted};
 ghost use Rattle.world.specs.Narrow.{generatorOfBody, moveOfBody};
-ghost use Rattle.world.specs.Commits.{delivered, fewer, relayLeft, deskLeft, begun};
+ghost use Rattle.world.specs.Commits.{delivered, fewer, relayLeft, deskLeft, relayAsked, relayAct, deskAsked, deskAct};
 use rules::Desk;
-use rules::Phase;
 use rules::Step;
 use stamps::Pair;
 use state::Body;
 use state::DeskPlan;
 use state::Event;
-use state::Head;
 use state::Message;
+use state::Part;
 use state::Plan;
 
+mod begin; // what a start writes
 mod reads; // what a step looks up
 pub mod run; // a whole sheet
 mod writes; // what it writes
@@ -136,39 +137,24 @@ fn desk_commits(w: &mut [u8], n: u8, p: usize, plan: DeskPlan) -> Answer
 
 // ---- steps of a relay
 
-fn join(w: &mut [u8], s: u8) -> Answer
-    requires { ⌜ goodBytes (now w) ≡ true ⌝ }
-    ensures { λ r. ⌜ lentOf r (now (w .exit)) ≡ lent.left (now (w .entry)) (steps.acts (worldAt (now (w .entry))) (if ltb s 8 then steps.join s else steps.bad)) ⌝ }
+// What the kind asks of the relay s; the part shows the generator of its own view.
+fn relay_asked(kind: u8, s: u8, part: Part) -> Plan
+    requires { ⌜ (s < 8) × (showsView (partOf part .view) (partOf part) ≡ true) ⌝ }
+    ensures { λ r. ⌜ planOf r ≡ planned noRelay (relayAsked kind s (partOf part)) ⌝ }
 {
-    if 8 <= s {
-        return refuses(2);
+    if kind == 1 {
+        return relay::join_asked(s, part);
     }
-    if !reads::alive_at(w, s) {
-        return refuses(4);
+    if kind == 2 {
+        return relay::leave_asked(s, part);
     }
-    let part = reads::part_at(w, s, 0, 0, 0);
-    let plan = relay::join_asked(s, part);
-    relay_commits(w, s, 256, plan)
+    relay::timer_rang(part)
 }
 
-fn leave(w: &mut [u8], s: u8) -> Answer
+// "1 JOIN relay, 2 LEAVE relay, 3 TIMER relay"
+fn relay_acts(w: &mut [u8], kind: u8, s: u8) -> Answer
     requires { ⌜ goodBytes (now w) ≡ true ⌝ }
-    ensures { λ r. ⌜ lentOf r (now (w .exit)) ≡ lent.left (now (w .entry)) (steps.acts (worldAt (now (w .entry))) (if ltb s 8 then steps.leave s else steps.bad)) ⌝ }
-{
-    if 8 <= s {
-        return refuses(2);
-    }
-    if !reads::alive_at(w, s) {
-        return refuses(4);
-    }
-    let part = reads::part_at(w, s, 0, 0, 0);
-    let plan = relay::leave_asked(s, part);
-    relay_commits(w, s, 256, plan)
-}
-
-fn timer(w: &mut [u8], s: u8) -> Answer
-    requires { ⌜ goodBytes (now w) ≡ true ⌝ }
-    ensures { λ r. ⌜ lentOf r (now (w .exit)) ≡ lent.left (now (w .entry)) (steps.acts (worldAt (now (w .entry))) (if ltb s 8 then steps.timer s else steps.bad)) ⌝ }
+    ensures { λ r. ⌜ lentOf r (now (w .exit)) ≡ lent.left (now (w .entry)) (steps.acts (worldAt (now (w .entry))) (relayAct kind s)) ⌝ }
 {
     if 8 <= s {
         return refuses(2);
@@ -178,30 +164,25 @@ fn timer(w: &mut [u8], s: u8) -> Answer
     }
     let view = rows::read_u16(w, s as usize * 5440 + 3);
     let part = reads::part_at(w, s, view, 0, 0);
-    let plan = relay::timer_rang(part);
+    let plan = relay_asked(kind, s, part);
     relay_commits(w, s, 256, plan)
 }
 
 // ---- steps of a desk
 
-fn read(w: &mut [u8], n: u8) -> Answer
-    requires { ⌜ goodBytes (now w) ≡ true ⌝ }
-    ensures { λ r. ⌜ lentOf r (now (w .exit)) ≡ lent.left (now (w .entry)) (steps.acts (worldAt (now (w .entry))) (if ltb n 4 then steps.read n else steps.bad)) ⌝ }
+fn desk_asked(kind: u8, x: u32, desk: Desk) -> DeskPlan
+    ensures { λ r. ⌜ deskPlanOf r ≡ planned noDesk (deskAsked kind x desk) ⌝ }
 {
-    if 4 <= n {
-        return refuses(2);
+    if kind == 5 {
+        return desk::write_asked(desk, x);
     }
-    if !reads::alive_at(w, 8 + n) {
-        return refuses(4);
-    }
-    let desk = image::desk_at(w, 43520 + n as usize * 64);
-    let plan = desk::read_asked(desk);
-    desk_commits(w, n, 256, plan)
+    desk::read_asked(desk)
 }
 
-fn write(w: &mut [u8], n: u8, x: u32) -> Answer
+// "4 READ desk, 5 WRITE desk value"
+fn desk_acts(w: &mut [u8], kind: u8, n: u8, x: u32) -> Answer
     requires { ⌜ goodBytes (now w) ≡ true ⌝ }
-    ensures { λ r. ⌜ lentOf r (now (w .exit)) ≡ lent.left (now (w .entry)) (steps.acts (worldAt (now (w .entry))) (if ltb n 4 then steps.write n x else steps.bad)) ⌝ }
+    ensures { λ r. ⌜ lentOf r (now (w .exit)) ≡ lent.left (now (w .entry)) (steps.acts (worldAt (now (w .entry))) (deskAct kind n x)) ⌝ }
 {
     if 4 <= n {
         return refuses(2);
@@ -210,7 +191,7 @@ fn write(w: &mut [u8], n: u8, x: u32) -> Answer
         return refuses(4);
     }
     let desk = image::desk_at(w, 43520 + n as usize * 64);
-    let plan = desk::write_asked(desk, x);
+    let plan = desk_asked(kind, x, desk);
     desk_commits(w, n, 256, plan)
 }
 
@@ -344,22 +325,16 @@ fn step_good(w: &mut [u8], k: Step) -> Answer
     let kind = k.kind;
     let id = k.id;
     if kind == 5 {
-        return write(w, id, k.value);
+        return desk_acts(w, kind, id, k.value);
     }
     if k.value != 0 {
         return refuses(2);
     }
-    if kind == 1 {
-        return join(w, id);
-    }
-    if kind == 2 {
-        return leave(w, id);
-    }
-    if kind == 3 {
-        return timer(w, id);
+    if (1 <= kind) & (kind <= 3) {
+        return relay_acts(w, kind, id);
     }
     if kind == 4 {
-        return read(w, id);
+        return desk_acts(w, kind, id, 0);
     }
     if kind == 6 {
         return deliver(w, id);
@@ -385,68 +360,6 @@ pub fn step(w: &mut [u8], k: Step) -> Answer
 
 // ---- the start
 
-// "its relays are entered and active, the others have view 0 and aren't"
-fn start_head(mask: u8, s: u8) -> Head
-    requires { ⌜ s < 8 ⌝ }
-    ensures { λ r. ⌜ relayOf r [] [] ≡ startRelay mask s ⌝ }
-{
-    let known = mask as u16;
-    let holds = stamps::fresh();
-    if (mask >> s) % 2 == 1 {
-        return Head {
-            alive: true,
-            entered: true,
-            active: true,
-            view: known,
-            known: known,
-            pending: 0,
-            holds: holds,
-        };
-    }
-    Head {
-        alive: true,
-        entered: false,
-        active: false,
-        view: 0,
-        known: known,
-        pending: 0,
-        holds: holds,
-    }
-}
-
-fn put_relays(w: &mut [u8], mask: u8)
-    ensures { λ _. ⌜ (now (w .entry) ≡ image (begun mask 0 0) → now (w .exit) ≡ image (begun mask 8 0)) ⌝ }
-{
-    for s in 0..8u8 {
-        let head = start_head(mask, s);
-        image::put_head(w, s as usize * 5440, head);
-    }
-}
-
-fn start_desk(mask: u8) -> Desk
-    ensures { λ r. ⌜ r ≡ startDesk mask ⌝ }
-{
-    Desk {
-        alive: true,
-        view: mask as u16,
-        phase: Phase::Idle,
-        tries: 0,
-        holds: stamps::fresh(),
-        replied: 0,
-        best: stamps::fresh(),
-        agreed: false,
-    }
-}
-
-fn put_desks(w: &mut [u8], mask: u8)
-    ensures { λ _. ⌜ (now (w .entry) ≡ image (begun mask 8 0) → now (w .exit) ≡ image (begun mask 8 4)) ⌝ }
-{
-    let desk = start_desk(mask);
-    for n in 0..4usize {
-        image::put_desk(w, 43520 + n * 64, desk);
-    }
-}
-
 // "Start: a mask 1..255 of relays."
 pub fn start(w: &mut [u8], mask: u8) -> Answer
     ensures { λ r. ⌜ lentOf r (now (w .exit)) ≡ lent.lentStart (now (w .entry)) mask ⌝ }
@@ -458,7 +371,7 @@ pub fn start(w: &mut [u8], mask: u8) -> Answer
         return refuses(2);
     }
     rows::clear(w, 0, 65536);
-    put_relays(w, mask);
-    put_desks(w, mask);
+    begin::put_relays(w, mask);
+    begin::put_desks(w, mask);
     tells(Event::Nothing, 0)
 }

@@ -1,17 +1,16 @@
 // A whole run of a sheet, and its printed record. Document 01, "Sheets and the printed record".
 ghost use mathlib.Core.Path.{_≡_};
 ghost use mathlib.Core.Bool.{true, false};
-ghost use mathlib.Core.List.{List, [], _∷_};
-ghost use Prim.Native.Nat.{ℕ, _+_, _*_, _≤_, _<_};
-ghost use lib.ListN.{length, getD, drop};
+ghost use mathlib.Core.List.{[], _∷_};
+ghost use Prim.Native.Nat.{_+_, _≤_};
+ghost use lib.ListN.{length, getD};
 ghost use Rattle.rules.specs.State.{World, start};
 ghost use Rattle.rules.specs.Sending.{waitingIn};
 ghost use Rattle.rules.specs.WellFormed.{wellFormed};
 ghost use Rattle.rules.specs.Image.{image, worldAt, goodBytes};
-ghost use Rattle.rules.specs.Sheets.{badSheet, stepsOf, stepsIn};
+ghost use Rattle.rules.specs.Sheets.{badSheet};
 ghost use Rattle.rules.specs.Runs.{fields, lastWorld, printed};
-ghost use Rattle.sheet.specs.Reading.{stepAt};
-ghost use Rattle.sheet.specs.declared.Found.the-variants as found;
+ghost use Rattle.sheet.specs.Reading.{stepsFrom};
 ghost use Rattle.record.specs.Lines.{laid, past, endOf};
 ghost use Rattle.world.specs.Answer.{reportOf};
 ghost use Rattle.world.specs.Playing.{columnsOf, Turned, Ran, told, rehearsal, worldLeft, recordLeft};
@@ -104,42 +103,32 @@ fn turn(w: &mut [u8], out: &mut [u8], at: usize, number: u32, k: Step) -> Tally
     }
 }
 
-// The step i, from 0.
-fn step_of(sheet: &[u8], i: usize) -> Step
-    requires { ⌜ i < 8000 ⌝ }
-    ensures { λ r. ⌜ ((k : Step) → stepAt (now (sheet .entry)) (6 + 8 * i) ≡ found.At k → r ≡ k) ⌝ }
+// "It is read from the front one step at a time"; "a line a step: number from 1, .."
+fn turns(sheet: &[u8], w: &mut [u8], out: &mut [u8], at: usize) -> Tally
+    requires { ⌜ (goodBytes (now w) ≡ true) × (badSheet (now sheet) ≡ false) ⌝ }
+    ensures { λ r. ⌜ Ran (worldAt (now (w .entry))) (stepsFrom (now (sheet .entry)) 6) at (now (out .entry)) (now (w .exit)) (now (out .exit)) r ⌝ }
 {
-    match sheet::step_at(sheet, 6 + 8 * i) {
-        Found::At(k) => k,
-        Found::End => Step {
-            kind: 0,
-            id: 0,
-            value: 0,
-        },
-    }
-}
-
-// "a line a step: number from 1, .."
-fn turns(sheet: &[u8], steps: usize, w: &mut [u8], out: &mut [u8], at: usize) -> Tally
-    requires { ⌜ (goodBytes (now w) ≡ true) × ((badSheet (now sheet) ≡ false) × (steps ≡ stepsOf (now sheet))) ⌝ }
-    ensures { λ r. ⌜ Ran (worldAt (now (w .entry))) (stepsIn steps (drop 6 (now (sheet .entry)))) at (now (out .entry)) (now (w .exit)) (now (out .exit)) r ⌝ }
-{
-    let mut i = 0;
+    let mut from = sheet::HEAD;
+    let mut number: u32 = 1;
     let mut p = at;
     let mut delivered: u32 = 0;
     let mut dropped: u32 = 0;
-    while i < steps {
-        let k = step_of(sheet, i);
-        let t = turn(w, out, p, i as u32 + 1, k);
+    loop {
+        let taken = sheet::reader::read_at(sheet, from);
+        let found = taken.found;
+        let Found::At(k) = found else {
+            return Tally {
+                at: p,
+                delivered: delivered,
+                dropped: dropped,
+            };
+        };
+        let t = turn(w, out, p, number, k);
         p = t.at;
         delivered += t.delivered;
         dropped += t.dropped;
-        i += 1;
-    }
-    Tally {
-        at: p,
-        delivered: delivered,
-        dropped: dropped,
+        number += 1;
+        from = taken.at;
     }
 }
 
@@ -165,15 +154,15 @@ fn put_totals(w: &[u8], out: &mut [u8], t: Tally) -> usize
 }
 
 // An accepted sheet.
-fn play(sheet: &[u8], mask: u8, steps: usize, w: &mut [u8], out: &mut [u8]) -> usize
-    requires { ⌜ (length (now w) ≡ 65536) × ((badSheet (now sheet) ≡ false) × ((mask ≡ getD (now sheet) 5 0) × (steps ≡ stepsOf (now sheet)))) ⌝ }
-    ensures position { λ r. ⌜ r ≡ past 0 (printed mask (stepsIn steps (drop 6 (now (sheet .entry))))) ⌝ }
-    ensures bytes { λ _. ⌜ now (out .exit) ≡ laid (now (out .entry)) 0 (printed mask (stepsIn steps (drop 6 (now (sheet .entry))))) ⌝ }
-    ensures world { λ _. ⌜ now (w .exit) ≡ image (lastWorld (start mask) (stepsIn steps (drop 6 (now (sheet .entry))))) ⌝ }
+fn play(sheet: &[u8], mask: u8, w: &mut [u8], out: &mut [u8]) -> usize
+    requires { ⌜ (length (now w) ≡ 65536) × ((badSheet (now sheet) ≡ false) × (mask ≡ getD (now sheet) 5 0)) ⌝ }
+    ensures position { λ r. ⌜ r ≡ past 0 (printed mask (stepsFrom (now (sheet .entry)) 6)) ⌝ }
+    ensures bytes { λ _. ⌜ now (out .exit) ≡ laid (now (out .entry)) 0 (printed mask (stepsFrom (now (sheet .entry)) 6)) ⌝ }
+    ensures world { λ _. ⌜ now (w .exit) ≡ image (lastWorld (start mask) (stepsFrom (now (sheet .entry)) 6)) ⌝ }
 {
     super::start(w, mask);
     let at = record::put_start(out, mask);
-    let t = turns(sheet, steps, w, out, at);
+    let t = turns(sheet, w, out, at);
     put_totals(w, out, t)
 }
 
@@ -215,6 +204,6 @@ pub fn rehearse(sheet: &[u8], world: &mut [u8], out: &mut [u8]) -> Rehearsed
         let short = record::put_bad(out);
         return fitted(short, out.len());
     }
-    let length = play(sheet, s.mask, s.steps, world, out);
+    let length = play(sheet, s.mask, world, out);
     fitted(length, out.len())
 }

@@ -1,56 +1,15 @@
 -- `relay::put_heard` meets its contract. Assumes nothing.
-use mathlib.Core.Path.{refl, sym, _∙_}
-use native.Mathlib.Omega.{arith}
-use borrow.Author.Tests.{lt-ltb, le-ltb, not-true, not-false}
-use Rattle.rules.specs.Messages.{bad-step, not-yet}
+use mathlib.Core.Path.{_∙_}
 use Rattle.rules.specs.State.{withHolds}
 use Rattle.rules.specs.Relays.{putHeard}
 use Rattle.state.specs.Meaning.{relayOf, partOf}
+use Rattle.relay.specs.Serving.{servedBy}
 use Rattle.relay.proofs.put_heard.Statement.{statement}
 use Rattle.relay.proofs.put_heard.Tie as tie
 
 returns : tie.Need-returns
-returns c = c .refuses .ensures bad-step refl ∙ rw (le-ltb (c .before .before .args .from) 12 (c .before .if1 .taken))
-
-returns-2 : tie.Need-returns-2
-unfolding putHeard partOf relayOf
-returns-2 c =
-    let c2 = c .before .before in
-    c .refuses2 .ensures not-yet refl ∙ rw (
-      lt-ltb (c2 .before .before .args .from) 12 (c2 .before .if1 .left),
-      sym (c2 .serves .ensures) ∙ not-true _ (c .before .if2 .taken),
-    )
-
-returns-3 : tie.Need-returns-3
-unfolding putHeard partOf relayOf
-returns-3 c =
-    let c2 = c .before .before in
-    let c5 = c2 .before .before .before in
-    let c8 = c5 .before .before .before in
-    c .sends .ensures ∙ rw (
-      c .before .to-one .ensures,
-      lt-ltb (c8 .args .from) 16 (omega (arith, c5 .before .before .if1 .left)),
-      c2 .view-reply .ensures,
-      lt-ltb (c8 .args .from) 12 (c5 .before .before .if1 .left),
-      sym (c5 .before .serves .ensures) ∙ not-false _ (c5 .if2 .left),
-      sym (c2 .before .before .inside .ensures) ∙ c2 .before .if3 .taken,
-    )
-
-returns-4 : tie.Need-returns-4
-unfolding putHeard withHolds partOf relayOf
-returns-4 c =
-    let c2 = c .before .before in
-    let c6 = c2 .before .before .before .before in
-    let c9 = c6 .before .before .before in
-    c .sends2 .ensures ∙ rw (
-      c .before .to-one2 .ensures,
-      lt-ltb (c9 .before .before .args .from) 16 (omega (arith, c9 .before .if1 .left)),
-      c2 .ack .ensures,
-      c2 .before .before .greatest .ensures,
-      lt-ltb (c9 .before .before .args .from) 12 (c9 .before .if1 .left),
-      sym (c9 .serves .ensures) ∙ not-false _ (c6 .before .before .if2 .left),
-      sym (c6 .before .inside .ensures) ∙ c6 .if3 .left,
-    )
+unfolding putHeard withHolds servedBy partOf relayOf
+returns c = rw (c .before .ack .ensures, c .before .before .before .greatest .ensures) at (c .served .ensures)
 
 pub put-heard-spec : {M : Type 1} → statement M
-put-heard-spec = tie.close (tie.spec (λ c κs. tt) returns (λ c κs. tt) (λ c κs. tt) returns-2 (λ c κs. tt) (λ c κs. tt) (λ c κs. tt) (λ c κs. tt) returns-3 (λ c κs. tt) (λ c κs. tt) (λ c κs. tt) (λ c κs. tt) returns-4)
+put-heard-spec = tie.close (tie.spec (λ c κs. tt) (λ c κs. tt) (λ c κs. tt) returns)

@@ -1,12 +1,13 @@
 -- `world::run::play` meets its contract. Assumes nothing.
 use Prim.Native.Nat.{_≤_, _<_}
 use native.Mathlib.Omega.{arith}
-use lib.ListN.{length, drop}
+use lib.ListN.{length}
 use borrow.Author.Needs.{needs}
 use Rattle.rules.specs.Image.{worldAt}
-use Rattle.rules.specs.Sheets.{stepsIn}
+use Rattle.sheet.specs.Reading.{stepsFrom}
 use Rattle.record.specs.Lines.{far}
-use Rattle.world.proofs.Playing.{few-delivered, few-dropped, shown-long, shown-few, started, played}
+use Rattle.world.proofs.Moves.{few-delivered, few-dropped}
+use Rattle.world.proofs.Playing.{shown-few, started, played}
 use Rattle.world.proofs.run.play.Statement.{statement}
 use Rattle.world.proofs.run.play.Tie as tie
 
@@ -21,8 +22,8 @@ turns-requires c κs =
     let began = c .before .before .before .before .before .before .before .before in
     let s = began .before .before .before .before .before in
     let a = s .args in (
-      started (a .sheet .now) (a .mask) (a .steps) (s .pre .1 .0) (s .pre .1 .1 .0) (small (began .before .before)) (a .w .now) (began .start .last .0) (began .start .result) (s .pre .0) (began .start .ensures) .0,
-      (s .pre .1 .0, s .pre .1 .1 .1),
+      started (a .sheet .now) (a .mask) (s .pre .1 .0) (s .pre .1 .1) (small (began .before .before)) (a .w .now) (began .start .last .0) (began .start .result) (s .pre .0) (began .start .ensures) .0,
+      s .pre .1 .0,
     )
 
 put-totals-requires : tie.Need-put-totals-requires
@@ -31,12 +32,10 @@ put-totals-requires c κs =
     let began = ran .before .before .before .before .before .before .before .before .before in
     let s = began .before .before .before .before .before in
     let b = s .args .sheet .now in
-    let n = s .args .steps in
     let v = worldAt (began .start .last .0) in
-    let long = shown-long b n (s .pre .1 .0) (s .pre .1 .1 .1) in
-    let most = shown-few b n (s .pre .1 .0) (s .pre .1 .1 .1) in (
-      omega (arith, ran .turns .ensures .delivered, few-delivered v (stepsIn n (drop 6 b)), long, most),
-      omega (arith, ran .turns .ensures .dropped, few-dropped v (stepsIn n (drop 6 b)), long, most),
+    let most = shown-few b (s .pre .1 .0) in (
+      omega (arith, ran .turns .ensures .delivered, few-delivered v (stepsFrom b 6), most),
+      omega (arith, ran .turns .ensures .dropped, few-dropped v (stepsFrom b 6), most),
     )
 
 returns : tie.Need-returns
@@ -49,8 +48,8 @@ returns c =
     let a = s .args in
     let v = began .start .last .0 in
     let low = small (began .before .before) in
-    let is = started (a .sheet .now) (a .mask) (a .steps) (s .pre .1 .0) (s .pre .1 .1 .0) low (a .w .now) v (began .start .result) (s .pre .0) (began .start .ensures) .1 in
-    played (a .sheet .now) (a .mask) (a .steps) (s .pre .1 .0) (s .pre .1 .1 .0) low (a .out .now) v _ _ _ _
+    let is = started (a .sheet .now) (a .mask) (s .pre .1 .0) (s .pre .1 .1) low (a .w .now) v (began .start .result) (s .pre .0) (began .start .ensures) .1 in
+    played (a .sheet .now) (a .mask) (s .pre .1 .0) (s .pre .1 .1) low (a .out .now) v _ _ _ _
     (head .put-start .result) (put .put-totals .result) (ran .turns .result) (near (began .before .before)) is (head .put-start .ensures) (ran .turns .ensures) (put .put-totals .ensures .0) (put .put-totals .ensures .1)
 
 pub play-spec : {M : Type 1} → statement M

@@ -1,8 +1,7 @@
 -- `world::run::put_totals` meets its contract. Assumes nothing.
-use mathlib.Core.Path.{_≡_, ap, _∙_}
+use mathlib.Core.Path.{ap, _∙_}
 use Prim.Native.Nat.{ℕ, _-_}
 use borrow.Author.Needs.{needs}
-use Rattle.rules.specs.State.{World}
 use Rattle.world.proofs.Playing.{waiting-rows}
 use Rattle.world.proofs.run.put_totals.Statement.{statement}
 use Rattle.world.proofs.run.put_totals.Tie as tie
