@@ -7,15 +7,11 @@ use Rattle.rules.specs.Sets.{if_then_else_}
 use Rattle.rules.specs.Image.{byte, goodBytes}
 use Rattle.rules.specs.Runs.{fields}
 use Rattle.rules.specs.Lent.{Lent}
-use Rattle.engine.specs.declared.Columns.{Columns}
 
 abbrev pub goodNumber : List ℕ → ℕ
 goodNumber b = if goodBytes b then 1 else 0
 
 -- the columns of document 01, in their order
-unfoldable pub listOf : Columns → List ℕ
-listOf c = c .event ∷ c .who ∷ c .count ∷ c .desk ∷ c .last ∷ []
-
 unfoldable pub toldOf : Lent → List ℕ
 toldOf l = fields (l .report .event) (l .report .who)
 

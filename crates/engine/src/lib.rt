@@ -1,60 +1,14 @@
 // The engine for C and Rust: byte slices and numbers only. A slice passes as a pointer and then a length.
 ghost use mathlib.Core.Path.{_≡_};
 ghost use Rattle.rows.specs.Bytes.{placed};
-ghost use Rattle.rules.specs.Runs.{fields};
 ghost use Rattle.rules.specs.Lent.{lentStart, lentStep};
-ghost use Rattle.world.specs.Answer.{reportOf};
-ghost use Rattle.engine.specs.Told.{goodNumber, listOf, toldBytes, toldOf};
+ghost use Rattle.world.specs.Playing.{columnsOf};
+ghost use Rattle.engine.specs.Told.{goodNumber, toldBytes, toldOf};
 use rules::Step;
-use stamps::Pair;
-use world::Report;
-
-// "event, who, stamp count, stamp desk, and value (events 2, 3) or view (event 1), zeros where none"
-pub struct Columns {
-    pub event: u8,
-    pub who: u8,
-    pub count: u16,
-    pub desk: u8,
-    pub last: u32,
-}
-
-fn ended(event: u8, who: u8, pair: Pair) -> Columns
-    ensures { λ r. ⌜ r ≡ record { event = event; who = who; count = pair .stamp .count; desk = pair .stamp .desk; last = pair .value } ⌝ }
-{
-    Columns {
-        event: event,
-        who: who,
-        count: pair.stamp.count,
-        desk: pair.stamp.desk,
-        last: pair.value,
-    }
-}
-
-fn reported(report: Report) -> Columns
-    ensures { λ r. ⌜ listOf r ≡ fields (reportOf report .event) (reportOf report .who) ⌝ }
-{
-    match report {
-        Report::Nothing => Columns {
-            event: 0,
-            who: 0,
-            count: 0,
-            desk: 0,
-            last: 0,
-        },
-        Report::Opened { relay, view } => Columns {
-            event: 1,
-            who: relay,
-            count: 0,
-            desk: 0,
-            last: view as u32,
-        },
-        Report::ReadDone { desk, pair } => ended(2, desk, pair),
-        Report::WriteDone { desk, pair } => ended(3, desk, pair),
-    }
-}
+use world::run::Columns;
 
 fn put_columns(told: &mut [u8], c: Columns)
-    ensures { λ _. ⌜ now (told .exit) ≡ placed (now (told .entry)) 0 (toldBytes (listOf c)) ⌝ }
+    ensures { λ _. ⌜ now (told .exit) ≡ placed (now (told .entry)) 0 (toldBytes (columnsOf c)) ⌝ }
 {
     if !rows::has_room(told.len(), 0, 9) {
         return;
@@ -94,7 +48,6 @@ pub extern "C" fn world_step(w: &mut [u8], kind: u8, id: u8, value: u32, told: &
 {
     let step = Step { kind, id, value };
     let answer = world::step(w, step);
-    let report = answer.report;
-    put_columns(told, reported(report));
+    put_columns(told, world::run::columns_of(answer));
     answer.number
 }

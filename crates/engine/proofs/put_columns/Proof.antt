@@ -8,7 +8,8 @@ use Rattle.rows.specs.Bytes.{cat}
 use Rattle.rows.proofs.Laws.{placed-length, room, no-room, put-first, put-then}
 use Rattle.rows.proofs.Fields.{none, more, cat-length}
 use Rattle.rows.proofs.Numbers.{length-be16, length-be32}
-use Rattle.engine.specs.Told.{listOf, toldBytes}
+use Rattle.world.specs.Playing.{columnsOf}
+use Rattle.engine.specs.Told.{toldBytes}
 use Rattle.engine.proofs.put_columns.Statement.{statement}
 use Rattle.engine.proofs.put_columns.Tie as tie
 
@@ -20,7 +21,7 @@ returns : tie.Need-returns
 returns c = no-room _ _ _ (nine _) (c .before .has-room .ensures) (c .if1 .taken)
 
 returns-2 : tie.Need-returns-2
-unfolding listOf toldBytes cat
+unfolding columnsOf toldBytes cat
 returns-2 c =
     let k5 = c .before .before in
     let k4 = k5 .before .before .before .before in

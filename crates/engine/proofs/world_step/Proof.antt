@@ -17,7 +17,7 @@ unfolding lentOf toldOf
 returns c =
     let step = c .before .before .before .before .before .before .before in
     let e = step .step .ensures in
-    let told = c .before .before .before .reported .ensures ∙ ap (λ (r : Report). fields (r .event) (r .who)) (ap (λ (l : Lent). l .report) e) in (
+    let told = c .before .before .before .columns-of .ensures ∙ ap (λ (r : Report). fields (r .event) (r .who)) (ap (λ (l : Lent). l .report) e) in (
       ap (λ (l : Lent). l .answer) e,
       (
         ap (λ (l : Lent). l .buffer) e,

@@ -1,12 +1,16 @@
 -- "Two results that satisfy one promise are proved equal" (document 01): for every public function, its promise and that two results, or two
 -- buffers, that satisfy it are equal. Results that a promise states by a meaning are equal in what they mean: the unused entries of a row and
 -- the unused fields of a body may differ (docs/DECISIONS.md, 34). Assumes nothing.
+--
+-- Each line is the promise as it stands in the source (checks/total compares them): r is the result; of a lent buffer, its name is what it held
+-- before and b what it holds afterwards. A function with several promises has a line for each, by its name.
 use mathlib.Core.Path.{_≡_, refl, sym, ap, _∙_}
 use mathlib.Core.List.{List, [], _∷_}
 use Prim.Native.Nat.{ℕ, _+_, _≤_}
 use lib.Bits.{bitOr}
 use lib.Dec.{leb}
 use lib.ListN.{length, getD, set}
+use denote.Ref.{RefT, now}
 use Rattle.views.specs.View.{membersOf, memberOf, quorumOf, reachesOf, withinOf, insideOf, clashOf}
 use Rattle.views.specs.Chain.{hasOf, lacksOf, conflictOf, sameOf, leastOf, mostOf, plusOf, unionOf, heardOf, beyondOf, aboveOf}
 use Rattle.views.specs.Row.{viewsOf, rowOf}
@@ -21,10 +25,11 @@ use Rattle.rules.specs.Messages as rules
 use Rattle.rules.specs.State.{noRelay, noDesk}
 use Rattle.rules.specs.Generators as generators
 use Rattle.rules.specs.Relays as relays
-use Rattle.rules.specs.Desks.{cleared, ended}
+use Rattle.rules.specs.Desks.{begun, ended}
 use Rattle.rules.specs.Desks as desks
 use Rattle.rules.specs.Image.{bodyRow, sequenceBytes, sequenceAt, pairBytes, pairAt, headBytes, generatorBytes, generatorAt, transferBytes, transferAt, deskBytes, deskAt, rowBytes, rowAt, goodBytes}
 use Rattle.rules.specs.Lent.{Lent, lentStart, lentStep}
+use Rattle.rules.specs.Runs.{decimal, line, fields}
 use Rattle.rules.specs.declared.Desk.{Desk}
 use Rattle.rules.specs.declared.Phase.{Phase}
 use Rattle.rules.specs.declared.Step.{Step}
@@ -40,12 +45,19 @@ use Rattle.state.specs.Plans.{noSending, turnOf, turned, planOf, deskPlanOf, pl
 use Rattle.messages.specs.Made.{fieldsOf, toOneOf}
 use Rattle.generator.specs.Heard.{heardInRow}
 use Rattle.relay.specs.Fitting.{joinAnswer, timerAnswer, hearsAnswer}
+use Rattle.desk.specs.Replies.{replyNoted}
 use Rattle.image.specs.Parts.{notesBytes, notesAt, headAt, messageRow}
+use Rattle.sheet.specs.Reading.{checkOf, stepAt, afterOf, takenAt}
+use Rattle.sheet.specs.Writing.{listed, writtenOf, leftOf}
+use Rattle.sheet.specs.declared.reader.Reader.{Reader}
+use Rattle.record.specs.Lines.{laid, past, startOf, stepOf, endOf, badOf}
 use Rattle.world.specs.Answer.{reportOf, lentOf}
+use Rattle.world.specs.Playing.{columnsOf, rehearsal, worldLeft, recordLeft}
 use Rattle.world.specs.declared.Answer.{Answer}
 use Rattle.world.specs.declared.Report.{Report}
 use Rattle.world.specs.declared.Report.the-variants.{Nothing, Opened, ReadDone, WriteDone}
+use Rattle.world.specs.declared.run.Columns.{Columns}
 use Rattle.engine.specs.Told.{goodNumber, toldBytes, toldOf}
 
 -- whatever satisfies P is equal
 abbrev pub Determined : {A : Type 0} → (A → Type 0) → Type 0
@@ -60,6 +72,10 @@ DeterminedBy {A} f P = (r s : A) → P r → P s → f r ≡ f s
 
 pub by-meaning : {A B : Type 0} (f : A → B) (x : B) → DeterminedBy f (λ (r : A). f r ≡ x)
 by-meaning f x r s e g = e ∙ sym g
+
+-- two results with the buffers after them, that satisfy P, are equal, and so are the buffers
+abbrev pub DeterminedWith : {A B : Type 0} → (A → B → Type 0) → Type 0
+DeterminedWith {A} {B} P = (r s : A) (b c : B) → P r b → P s c → (r ≡ s) × (b ≡ c)
 
 -- ---- views
 
@@ -152,39 +168,39 @@ stamps-greatest held new = by-equation (greatestOf held new)
 pub stamps-fresh : Determined (λ r. r ≡ freshPair)
 stamps-fresh = by-equation freshPair
 
--- ---- rows; of a function that writes, the bytes after it, where l is what the buffer held before
+-- ---- rows; of a function that writes, the bytes after it, where s is what the buffer held before
 
 pub rows-has-room : (len at n : ℕ) → Determined (λ r. r ≡ leb (at + n) len)
 rows-has-room len at n = by-equation (leb (at + n) len)
 
-pub rows-byte-at : (l : List ℕ) (at : ℕ) → Determined (λ r. r ≡ getD l at 0)
-rows-byte-at l at = by-equation (getD l at 0)
+pub rows-byte-at : (s : List ℕ) (at : ℕ) → Determined (λ r. r ≡ getD s at 0)
+rows-byte-at s at = by-equation (getD s at 0)
 
-pub rows-put-byte : (l : List ℕ) (at x : ℕ) → Determined (λ b. b ≡ placed l at (x ∷ []))
-rows-put-byte l at x = by-equation (placed l at (x ∷ []))
+pub rows-put-byte : (s : List ℕ) (at x : ℕ) → Determined (λ b. b ≡ placed s at (x ∷ []))
+rows-put-byte s at x = by-equation (placed s at (x ∷ []))
 
-pub rows-put-u16 : (l : List ℕ) (at x : ℕ) → Determined (λ b. b ≡ placed l at (be16 x))
-rows-put-u16 l at x = by-equation (placed l at (be16 x))
+pub rows-put-u16 : (s : List ℕ) (at x : ℕ) → Determined (λ b. b ≡ placed s at (be16 x))
+rows-put-u16 s at x = by-equation (placed s at (be16 x))
 
-pub rows-put-u32 : (l : List ℕ) (at x : ℕ) → Determined (λ b. b ≡ placed l at (be32 x))
-rows-put-u32 l at x = by-equation (placed l at (be32 x))
+pub rows-put-u32 : (s : List ℕ) (at x : ℕ) → Determined (λ b. b ≡ placed s at (be32 x))
+rows-put-u32 s at x = by-equation (placed s at (be32 x))
 
-pub rows-clear : (l : List ℕ) (at n : ℕ) → Determined (λ b. b ≡ placed l at (zeros n))
-rows-clear l at n = by-equation (placed l at (zeros n))
+pub rows-clear : (s : List ℕ) (at n : ℕ) → Determined (λ b. b ≡ placed s at (zeros n))
+rows-clear s at n = by-equation (placed s at (zeros n))
 
-pub rows-read-u16 : (l : List ℕ) (at : ℕ) → Determined (λ r. r ≡ u16At l at)
-rows-read-u16 l at = by-equation (u16At l at)
+pub rows-read-u16 : (s : List ℕ) (at : ℕ) → Determined (λ r. r ≡ u16At s at)
+rows-read-u16 s at = by-equation (u16At s at)
 
-pub rows-read-u32 : (l : List ℕ) (at : ℕ) → Determined (λ r. r ≡ u32At l at)
-rows-read-u32 l at = by-equation (u32At l at)
+pub rows-read-u32 : (s : List ℕ) (at : ℕ) → Determined (λ r. r ≡ u32At s at)
+rows-read-u32 s at = by-equation (u32At s at)
 
-pub rows-is-zero : (l : List ℕ) (at n : ℕ) → Determined (λ r. r ≡ allZero l at n)
-rows-is-zero l at n = by-equation (allZero l at n)
+pub rows-is-zero : (s : List ℕ) (at n : ℕ) → Determined (λ r. r ≡ allZero s at n)
+rows-is-zero s at n = by-equation (allZero s at n)
 
 -- ---- rules
 
-pub rules-cleared : (self : Desk) (phase : Phase) (view : ℕ) (holds : Pair) (tries : ℕ) → Determined (λ r. r ≡ cleared self phase view holds tries)
-rules-cleared self phase view holds tries = by-equation (cleared self phase view holds tries)
+pub rules-begun : (self : Desk) (phase : Phase) (view : ℕ) (holds : Pair) → Determined (λ r. r ≡ begun self phase view holds)
+rules-begun self phase view holds = by-equation (begun self phase view holds)
 
 pub rules-ended : (self : Desk) → Determined (λ r. r ≡ ended self)
 rules-ended self = by-equation (ended self)
@@ -287,62 +303,147 @@ desk-write-asked d x = by-meaning deskPlanOf (planned noDesk (desks.writeAsked d
 pub desk-hears : (n : ℕ) (d : Desk) (from : ℕ) (b : Body) → DeterminedBy deskPlanOf (λ r. deskPlanOf r ≡ planned noDesk (desks.deskHears n d from (bodyOf b)))
 desk-hears n d from b = by-meaning deskPlanOf (planned noDesk (desks.deskHears n d from (bodyOf b)))
 
+pub desk-note-reply : (desk : Desk) (from : ℕ) (p : Pair) → Determined (λ b. b ≡ replyNoted desk from p)
+desk-note-reply desk from p = by-equation (replyNoted desk from p)
+
 -- ---- image
 
-pub image-sequence-at : (l : List ℕ) (at : ℕ) → DeterminedBy viewsOf (λ r. viewsOf r ≡ sequenceAt l at)
-image-sequence-at l at = by-meaning viewsOf (sequenceAt l at)
+pub image-sequence-at : (s : List ℕ) (at : ℕ) → DeterminedBy viewsOf (λ r. viewsOf r ≡ sequenceAt s at)
+image-sequence-at s at = by-meaning viewsOf (sequenceAt s at)
 
-pub image-put-sequence : (l : List ℕ) (at : ℕ) (q : Sequence) → Determined (λ b. b ≡ placed l at (sequenceBytes (viewsOf q)))
-image-put-sequence l at q = by-equation (placed l at (sequenceBytes (viewsOf q)))
+pub image-put-sequence : (s : List ℕ) (at : ℕ) (q : Sequence) → Determined (λ b. b ≡ placed s at (sequenceBytes (viewsOf q)))
+image-put-sequence s at q = by-equation (placed s at (sequenceBytes (viewsOf q)))
 
-pub image-pair-at : (l : List ℕ) (at : ℕ) → Determined (λ r. r ≡ pairAt l at)
-image-pair-at l at = by-equation (pairAt l at)
+pub image-pair-at : (s : List ℕ) (at : ℕ) → Determined (λ r. r ≡ pairAt s at)
+image-pair-at s at = by-equation (pairAt s at)
 
-pub image-put-pair : (l : List ℕ) (at : ℕ) (p : Pair) → Determined (λ b. b ≡ placed l at (pairBytes p))
-image-put-pair l at p = by-equation (placed l at (pairBytes p))
+pub image-put-pair : (s : List ℕ) (at : ℕ) (p : Pair) → Determined (λ b. b ≡ placed s at (pairBytes p))
+image-put-pair s at p = by-equation (placed s at (pairBytes p))
 
-pub image-head-at : (l : List ℕ) (at : ℕ) → Determined (λ r. r ≡ headAt l at)
-image-head-at l at = by-equation (headAt l at)
+pub image-head-at : (s : List ℕ) (at : ℕ) → Determined (λ r. r ≡ headAt s at)
+image-head-at s at = by-equation (headAt s at)
 
-pub image-put-head : (l : List ℕ) (at : ℕ) (h : Head) → Determined (λ b. b ≡ placed l at (headBytes (relayOf h [] [])))
-image-put-head l at h = by-equation (placed l at (headBytes (relayOf h [] [])))
+pub image-put-head : (s : List ℕ) (at : ℕ) (h : Head) → Determined (λ b. b ≡ placed s at (headBytes (relayOf h [] [])))
+image-put-head s at h = by-equation (placed s at (headBytes (relayOf h [] [])))
 
-pub image-notes-at : (l : List ℕ) (at : ℕ) → DeterminedBy notesOf (λ r. notesOf r ≡ notesAt l at)
-image-notes-at l at = by-meaning notesOf (notesAt l at)
+pub image-notes-at : (s : List ℕ) (at : ℕ) → DeterminedBy notesOf (λ r. notesOf r ≡ notesAt s at)
+image-notes-at s at = by-meaning notesOf (notesAt s at)
 
-pub image-put-notes : (l : List ℕ) (at : ℕ) (n : Notes) → Determined (λ b. b ≡ placed l at (notesBytes (notesOf n)))
-image-put-notes l at n = by-equation (placed l at (notesBytes (notesOf n)))
+pub image-put-notes : (s : List ℕ) (at : ℕ) (n : Notes) → Determined (λ b. b ≡ placed s at (notesBytes (notesOf n)))
+image-put-notes s at n = by-equation (placed s at (notesBytes (notesOf n)))
 
-pub image-generator-at : (l : List ℕ) (at : ℕ) → DeterminedBy generatorOf (λ r. generatorOf r ≡ generatorAt l at)
-image-generator-at l at = by-meaning generatorOf (generatorAt l at)
+pub image-generator-at : (s : List ℕ) (at : ℕ) → DeterminedBy generatorOf (λ r. generatorOf r ≡ generatorAt s at)
+image-generator-at s at = by-meaning generatorOf (generatorAt s at)
 
-pub image-put-generator : (l : List ℕ) (at : ℕ) (g : Generator) → Determined (λ b. b ≡ placed l at (generatorBytes (generatorOf g)))
-image-put-generator l at g = by-equation (placed l at (generatorBytes (generatorOf g)))
+pub image-put-generator : (s : List ℕ) (at : ℕ) (g : Generator) → Determined (λ b. b ≡ placed s at (generatorBytes (generatorOf g)))
+image-put-generator s at g = by-equation (placed s at (generatorBytes (generatorOf g)))
 
-pub image-transfer-at : (l : List ℕ) (at : ℕ) → DeterminedBy transferOf (λ r. transferOf r ≡ transferAt l at)
-image-transfer-at l at = by-meaning transferOf (transferAt l at)
+pub image-transfer-at : (s : List ℕ) (at : ℕ) → DeterminedBy transferOf (λ r. transferOf r ≡ transferAt s at)
+image-transfer-at s at = by-meaning transferOf (transferAt s at)
 
-pub image-put-transfer : (l : List ℕ) (at : ℕ) (t : Transfer) → Determined (λ b. b ≡ placed l at (transferBytes (transferOf t)))
-image-put-transfer l at t = by-equation (placed l at (transferBytes (transferOf t)))
+pub image-put-transfer : (s : List ℕ) (at : ℕ) (t : Transfer) → Determined (λ b. b ≡ placed s at (transferBytes (transferOf t)))
+image-put-transfer s at t = by-equation (placed s at (transferBytes (transferOf t)))
 
-pub image-desk-at : (l : List ℕ) (at : ℕ) → Determined (λ r. r ≡ deskAt l at)
-image-desk-at l at = by-equation (deskAt l at)
+pub image-desk-at : (s : List ℕ) (at : ℕ) → Determined (λ r. r ≡ deskAt s at)
+image-desk-at s at = by-equation (deskAt s at)
 
-pub image-put-desk : (l : List ℕ) (at : ℕ) (d : Desk) → Determined (λ b. b ≡ placed l at (deskBytes d))
-image-put-desk l at d = by-equation (placed l at (deskBytes d))
+pub image-put-desk : (s : List ℕ) (at : ℕ) (d : Desk) → Determined (λ b. b ≡ placed s at (deskBytes d))
+image-put-desk s at d = by-equation (placed s at (deskBytes d))
 
-pub image-message-at : (l : List ℕ) (at : ℕ) → DeterminedBy messageRow (λ r. messageRow r ≡ rowAt l at)
-image-message-at l at = by-meaning messageRow (rowAt l at)
+pub image-message-at : (s : List ℕ) (at : ℕ) → DeterminedBy messageRow (λ r. messageRow r ≡ rowAt s at)
+image-message-at s at = by-meaning messageRow (rowAt s at)
 
-pub image-put-message : (l : List ℕ) (at : ℕ) (m : Message) → Determined (λ b. b ≡ placed l at (rowBytes (messageRow m)))
-image-put-message l at m = by-equation (placed l at (rowBytes (messageRow m)))
+pub image-put-message : (s : List ℕ) (at : ℕ) (m : Message) → Determined (λ b. b ≡ placed s at (rowBytes (messageRow m)))
+image-put-message s at m = by-equation (placed s at (rowBytes (messageRow m)))
 
 -- ---- good
 
-pub good-is-good : (l : List ℕ) → Determined (λ r. r ≡ goodBytes l)
-good-is-good l = by-equation (goodBytes l)
+pub good-is-good : (w : List ℕ) → Determined (λ r. r ≡ goodBytes w)
+good-is-good w = by-equation (goodBytes w)
 
--- ---- world; both the answer and the bytes after it
+-- ---- sheet
+
+pub sheet-check : (b : List ℕ) → Determined (λ r. r ≡ checkOf b)
+sheet-check b = by-equation (checkOf b)
+
+pub sheet-step-at : (b : List ℕ) (at : ℕ) → Determined (λ r. r ≡ stepAt b at)
+sheet-step-at b at = by-equation (stepAt b at)
+
+pub sheet-after : (b : List ℕ) (at : ℕ) → Determined (λ r. r ≡ afterOf b at)
+sheet-after b at = by-equation (afterOf b at)
+
+pub sheet-write-answer : (buf : List ℕ) (mask : ℕ) (kinds ids values : List ℕ) → Determined (λ r. r ≡ writtenOf buf mask (listed kinds ids values))
+sheet-write-answer buf mask kinds ids values = by-equation (writtenOf buf mask (listed kinds ids values))
+
+pub sheet-write-left : (buf : List ℕ) (mask : ℕ) (kinds ids values : List ℕ) → Determined (λ b. b ≡ leftOf buf mask (listed kinds ids values))
+sheet-write-left buf mask kinds ids values = by-equation (leftOf buf mask (listed kinds ids values))
+
+reader-back : (r s : Reader) → r .sheet ≡ s .sheet → r .at ≡ s .at → r ≡ s
+reader-back r s e f = λ i. record { sheet = e i; at = f i }
+
+pub sheet-new : (sheet : RefT (List ℕ)) → Determined (λ (r : Reader). (r .sheet ≡ sheet) × (r .at ≡ 6))
+sheet-new sheet r s e f = reader-back r s (e .0 ∙ sym (f .0)) (e .1 ∙ sym (f .1))
+
+pub sheet-next : (r : Reader) → Determined (λ s. s ≡ stepAt (now (r .sheet)) (r .at))
+sheet-next r = by-equation (stepAt (now (r .sheet)) (r .at))
+
+pub sheet-moved : (r : Reader) → Determined (λ (q : Reader). (q .sheet ≡ r .sheet) × (q .at ≡ afterOf (now (r .sheet)) (r .at)))
+sheet-moved r q s e f = reader-back q s (e .0 ∙ sym (f .0)) (e .1 ∙ sym (f .1))
+
+pub sheet-read-at : (sheet : List ℕ) (at : ℕ) → Determined (λ r. r ≡ takenAt sheet at)
+sheet-read-at sheet at = by-equation (takenAt sheet at)
+
+-- ---- record; the position past the bytes, and the bytes
+
+pub record-put-position : (at x : ℕ) → Determined (λ r. r ≡ past at (x ∷ []))
+record-put-position at x = by-equation (past at (x ∷ []))
+
+pub record-put-bytes : (out : List ℕ) (at x : ℕ) → Determined (λ b. b ≡ laid out at (x ∷ []))
+record-put-bytes out at x = by-equation (laid out at (x ∷ []))
+
+pub record-put-number-position : (at n : ℕ) → Determined (λ r. r ≡ past at (decimal n))
+record-put-number-position at n = by-equation (past at (decimal n))
+
+pub record-put-number-bytes : (out : List ℕ) (at n : ℕ) → Determined (λ b. b ≡ laid out at (decimal n))
+record-put-number-bytes out at n = by-equation (laid out at (decimal n))
+
+pub record-put-line-position : (at : ℕ) (numbers : List ℕ) → Determined (λ r. r ≡ past at (line numbers))
+record-put-line-position at numbers = by-equation (past at (line numbers))
+
+pub record-put-line-bytes : (out : List ℕ) (at : ℕ) (numbers : List ℕ) → Determined (λ b. b ≡ laid out at (line numbers))
+record-put-line-bytes out at numbers = by-equation (laid out at (line numbers))
+
+pub record-put-word-position : (at : ℕ) (word : List ℕ) → Determined (λ r. r ≡ past at word)
+record-put-word-position at word = by-equation (past at word)
+
+pub record-put-word-bytes : (out : List ℕ) (at : ℕ) (word : List ℕ) → Determined (λ b. b ≡ laid out at word)
+record-put-word-bytes out at word = by-equation (laid out at word)
+
+pub record-put-start-position : (mask : ℕ) → Determined (λ r. r ≡ past 0 (startOf mask))
+record-put-start-position mask = by-equation (past 0 (startOf mask))
+
+pub record-put-start-bytes : (out : List ℕ) (mask : ℕ) → Determined (λ b. b ≡ laid out 0 (startOf mask))
+record-put-start-bytes out mask = by-equation (laid out 0 (startOf mask))
+
+pub record-put-step-position : (at number answer event who count desk last : ℕ) → Determined (λ r. r ≡ past at (stepOf number answer event who count desk last))
+record-put-step-position at number answer event who count desk last = by-equation (past at (stepOf number answer event who count desk last))
+
+pub record-put-step-bytes : (out : List ℕ) (at number answer event who count desk last : ℕ) → Determined (λ b. b ≡ laid out at (stepOf number answer event who count desk last))
+record-put-step-bytes out at number answer event who count desk last = by-equation (laid out at (stepOf number answer event who count desk last))
+
+pub record-put-end-position : (at sent delivered dropped waiting : ℕ) → Determined (λ r. r ≡ past at (endOf sent delivered dropped waiting))
+record-put-end-position at sent delivered dropped waiting = by-equation (past at (endOf sent delivered dropped waiting))
+
+pub record-put-end-bytes : (out : List ℕ) (at sent delivered dropped waiting : ℕ) → Determined (λ b. b ≡ laid out at (endOf sent delivered dropped waiting))
+record-put-end-bytes out at sent delivered dropped waiting = by-equation (laid out at (endOf sent delivered dropped waiting))
+
+pub record-put-bad-position : Determined (λ r. r ≡ past 0 badOf)
+record-put-bad-position = by-equation (past 0 badOf)
+
+pub record-put-bad-bytes : (out : List ℕ) → Determined (λ b. b ≡ laid out 0 badOf)
+record-put-bad-bytes out = by-equation (laid out 0 badOf)
+
+-- ---- world; of a step and of a start, the answer and the bytes after it at once
 
 -- the report that means this event, of this relay or desk
 reportFor : rules.Event → ℕ → Report
@@ -367,34 +468,50 @@ answer-back r b =
     let with : Report → Answer = λ x. record { number = r .number; report = x } in
     ap with (report-back (r .report))
 
-pub lent-determined : (l : Lent) (r s : Answer) (b c : List ℕ) → lentOf r b ≡ l → lentOf s c ≡ l → (r ≡ s) × (b ≡ c)
+by-lent : (l : Lent) → DeterminedWith (λ r b. lentOf r b ≡ l)
 unfolding lentOf
-lent-determined l r s b c e f =
+by-lent l r s b c e f =
     let same = e ∙ sym f in
     (sym (answer-back r b) ∙ ap answerFor same ∙ answer-back s c, ap (λ (x : Lent). x .buffer) same)
 
-pub world-start : (l : List ℕ) (mask : ℕ) (r s : Answer) (b c : List ℕ) → lentOf r b ≡ lentStart l mask → lentOf s c ≡ lentStart l mask → (r ≡ s) × (b ≡ c)
-world-start l mask = lent-determined (lentStart l mask)
+pub world-step : (w : List ℕ) (k : Step) → DeterminedWith (λ r b. lentOf r b ≡ lentStep w k)
+world-step w k = by-lent (lentStep w k)
 
-pub world-step : (l : List ℕ) (k : Step) (r s : Answer) (b c : List ℕ) → lentOf r b ≡ lentStep l k → lentOf s c ≡ lentStep l k → (r ≡ s) × (b ≡ c)
-world-step l k = lent-determined (lentStep l k)
+pub world-start : (w : List ℕ) (mask : ℕ) → DeterminedWith (λ r b. lentOf r b ≡ lentStart w mask)
+world-start w mask = by-lent (lentStart w mask)
+
+columns-back : (r s : Columns) → columnsOf r ≡ columnsOf s → r ≡ s
+unfolding columnsOf
+columns-back r s e = λ i. record { event = getD (e i) 0 0; who = getD (e i) 1 0; count = getD (e i) 2 0; desk = getD (e i) 3 0; last = getD (e i) 4 0 }
+
+pub world-columns-of : (a : Answer) → Determined (λ r. columnsOf r ≡ fields (reportOf (a .report) .event) (reportOf (a .report) .who))
+world-columns-of a r s e f = columns-back r s (e ∙ sym f)
+
+pub world-rehearse-answer : (sheet world out : List ℕ) → Determined (λ r. r ≡ rehearsal sheet world out)
+world-rehearse-answer sheet world out = by-equation (rehearsal sheet world out)
+
+pub world-rehearse-last : (sheet world : List ℕ) → Determined (λ b. b ≡ worldLeft sheet world)
+world-rehearse-last sheet world = by-equation (worldLeft sheet world)
+
+pub world-rehearse-printed : (sheet world out : List ℕ) → Determined (λ b. b ≡ recordLeft sheet world out)
+world-rehearse-printed sheet world out = by-equation (recordLeft sheet world out)
 
 -- ---- engine; the answer, the world and the columns, each with a promise of its own
 
-pub engine-world-good : (l : List ℕ) → Determined (λ r. r ≡ goodNumber l)
-engine-world-good l = by-equation (goodNumber l)
+pub engine-world-good : (w : List ℕ) → Determined (λ r. r ≡ goodNumber w)
+engine-world-good w = by-equation (goodNumber w)
 
-pub engine-world-start-answer : (l : List ℕ) (mask : ℕ) → Determined (λ r. r ≡ lentStart l mask .answer)
-engine-world-start-answer l mask = by-equation (lentStart l mask .answer)
+pub engine-world-start-answer : (w : List ℕ) (mask : ℕ) → Determined (λ r. r ≡ lentStart w mask .answer)
+engine-world-start-answer w mask = by-equation (lentStart w mask .answer)
 
-pub engine-world-start-buffer : (l : List ℕ) (mask : ℕ) → Determined (λ b. b ≡ lentStart l mask .buffer)
-engine-world-start-buffer l mask = by-equation (lentStart l mask .buffer)
+pub engine-world-start-buffer : (w : List ℕ) (mask : ℕ) → Determined (λ b. b ≡ lentStart w mask .buffer)
+engine-world-start-buffer w mask = by-equation (lentStart w mask .buffer)
 
-pub engine-world-step-answer : (l : List ℕ) (kind id value : ℕ) → Determined (λ r. r ≡ lentStep l (record { kind = kind; id = id; value = value }) .answer)
-engine-world-step-answer l kind id value = by-equation (lentStep l (record { kind = kind; id = id; value = value }) .answer)
+pub engine-world-step-answer : (w : List ℕ) (kind id value : ℕ) → Determined (λ r. r ≡ lentStep w (record { kind = kind; id = id; value = value }) .answer)
+engine-world-step-answer w kind id value = by-equation (lentStep w (record { kind = kind; id = id; value = value }) .answer)
 
-pub engine-world-step-buffer : (l : List ℕ) (kind id value : ℕ) → Determined (λ b. b ≡ lentStep l (record { kind = kind; id = id; value = value }) .buffer)
-engine-world-step-buffer l kind id value = by-equation (lentStep l (record { kind = kind; id = id; value = value }) .buffer)
+pub engine-world-step-buffer : (w : List ℕ) (kind id value : ℕ) → Determined (λ b. b ≡ lentStep w (record { kind = kind; id = id; value = value }) .buffer)
+engine-world-step-buffer w kind id value = by-equation (lentStep w (record { kind = kind; id = id; value = value }) .buffer)
 
-pub engine-world-step-columns : (l told : List ℕ) (kind id value : ℕ) → Determined (λ b. b ≡ placed told 0 (toldBytes (toldOf (lentStep l (record { kind = kind; id = id; value = value })))))
-engine-world-step-columns l told kind id value = by-equation (placed told 0 (toldBytes (toldOf (lentStep l (record { kind = kind; id = id; value = value })))))
+pub engine-world-step-columns : (w told : List ℕ) (kind id value : ℕ) → Determined (λ b. b ≡ placed told 0 (toldBytes (toldOf (lentStep w (record { kind = kind; id = id; value = value })))))
+engine-world-step-columns w told kind id value = by-equation (placed told 0 (toldBytes (toldOf (lentStep w (record { kind = kind; id = id; value = value })))))

@@ -1,0 +1,256 @@
+-- DEMAND 2, what it rules out: "refusing everything, one constant reply, no work at all, and real work on the first step with show afterwards (the rules bind
+-- each step). Invented totals are ruled out by the tie to the steps taken." Each is refuted from the promise alone. Assumes nothing.
+use mathlib.Core.Path.{_≡_, refl, sym, ap, _∙_}
+use mathlib.Core.Bool.{true}
+use mathlib.Core.List.{List, [], _∷_, _++_, map, append-assoc}
+use Prim.Native.Nat.{ℕ, suc, _+_, _≤_, _<_}
+use native.Mathlib.Omega.{arith}
+use lib.ListN.{length, getD, drop, replicate, length-replicate}
+use lib.Seq.{take-all, drop-append-seam}
+use Rattle.rules.specs.State.{Place, free, World, start}
+use Rattle.rules.specs.State as state
+use Rattle.rules.specs.Sending.{waitingIn}
+use Rattle.rules.specs.WellFormed.{wellFormed}
+use Rattle.rules.specs.declared.Step.{Step}
+use Rattle.rules.specs.Steps.{Outcome, refusal, done, after, report, stepped}
+use Rattle.rules.specs.Image.{placeRow, image, goodBytes}
+use Rattle.rules.specs.Lent.{Lent, left, lentStep}
+use Rattle.rules.specs.Sheets.{stepsIn, allZerosIn, sheet, sheetIn}
+use Rattle.rules.specs.Runs.{rehearsed, outcomes, lastWorld, sentBy, deliveredBy, droppedBy, sum, answer, fields, stepLines, printed}
+use Rattle.rules.specs.Examples.{recorded}
+use Rattle.rules.proofs.Kept.{good-facts, step-keeps, run-keeps, always-good}
+use Rattle.rules.proofs.Counts.{sent-is-sum}
+use Rattle.rules.proofs.ImageWidths.{length-image}
+use Rattle.rules.proofs.ImageWorld.{image-injective}
+use Rattle.record.specs.Lines.{laid, startOf, endOf}
+use Rattle.record.proofs.Laying.{laid-front}
+use Rattle.record.proofs.Whole.{printed-is}
+use Rattle.world.specs.Answer.{lentOf, columns}
+use Rattle.world.specs.declared.Answer.{Answer}
+use Rattle.world.specs.Playing.{recordLeft}
+use Rattle.world.proofs.Moves.{few-delivered, few-dropped}
+use Rattle.certificate.proofs.Differ.{differ, entry}
+use Rattle.certificate.proofs.EndLine.{Small, end-read}
+use Rattle.certificate.proofs.Worlds.{one, one-formed, one-good, write, deliver, step-of}
+use Rattle.certificate.proofs.RuledOutWorld.{write-moves, blank, withTotals, written}
+
+-- A program for steps. It may know how often it was called before: at its call n, from 0, it answers the step k of a buffer w, and leaves that buffer with
+-- other bytes. (`world::step` remembers nothing; here it is not assumed.)
+pub record Program : Type 0 where
+  pub answers : ℕ → List ℕ → Step → Answer
+  pub leaves : ℕ → List ℕ → Step → List ℕ
+
+-- The promise of `world::step`, kept at the call n; and at each call.
+abbrev pub PromisedAt : Program → ℕ → Type 0
+PromisedAt f n = (w : List ℕ) (k : Step) → lentOf (f .answers n w k) (f .leaves n w k) ≡ lentStep w k
+
+abbrev pub Promised : Program → Type 0
+Promised f = (n : ℕ) → PromisedAt f n
+
+abbrev number : Lent → ℕ
+number l = l .answer
+
+abbrev buffer : Lent → List ℕ
+buffer l = l .buffer
+
+-- ---- one call
+
+module _ (f : Program) (n : ℕ) (promised : PromisedAt f n) where
+  -- from a start, WRITE 0 77 is done, and DELIVER 0 finds an empty place
+  done-here : f .answers n one write .number ≡ 0
+  unfolding recorded lentOf
+  done-here = ap number (promised one write ∙ step-of (start 1) one-formed write)
+
+  empty-here : f .answers n one deliver .number ≡ 3
+  unfolding recorded lentOf
+  empty-here = ap number (promised one deliver ∙ step-of (start 1) one-formed deliver)
+
+  -- it does not refuse every step
+  pub call-accepts : ¬ ((w : List ℕ) (k : Step) → 0 < f .answers n w k .number)
+  call-accepts p = omega (arith, p one write, done-here)
+
+  -- it has not one answer for everything, not even for the steps of good worlds
+  pub call-varies : (a : Answer) → ¬ ((w : List ℕ) (k : Step) → goodBytes w ≡ true → f .answers n w k ≡ a)
+  call-varies a p =
+      let same : f .answers n one write .number ≡ f .answers n one deliver .number = ap (λ (x : Answer). x .number) (p one write one-good ∙ sym (p one deliver one-good)) in
+      omega (arith, same, done-here, empty-here)
+
+  -- it does not leave every buffer as it was
+  pub call-works : ¬ ((w : List ℕ) (k : Step) → f .leaves n w k ≡ w)
+  unfolding recorded lentOf
+  call-works p = write-moves (sym (p one write) ∙ ap buffer (promised one write ∙ step-of (start 1) one-formed write))
+
+-- ---- the four wrong programs
+
+-- "refusing everything"
+pub refusing-everything : (f : Program) → Promised f → ¬ ((n : ℕ) (w : List ℕ) (k : Step) → 0 < f .answers n w k .number)
+refusing-everything f promised p = call-accepts f 0 (promised 0) (p 0)
+
+-- "one constant reply"
+pub one-constant-reply : (f : Program) → Promised f → (a : Answer) → ¬ ((n : ℕ) (w : List ℕ) (k : Step) → f .answers n w k ≡ a)
+one-constant-reply f promised a p = call-varies f 0 (promised 0) a (λ w k good. p 0 w k)
+
+-- "no work at all"
+pub no-work-at-all : (f : Program) → Promised f → ¬ ((n : ℕ) (w : List ℕ) (k : Step) → f .leaves n w k ≡ w)
+no-work-at-all f promised p = call-works f 0 (promised 0) (p 0)
+
+-- "real work on the first step with show afterwards": whatever it does at the first call, afterwards it refuses, or has one reply, or does no work
+pub show-by-refusing : (f : Program) → Promised f → ¬ ((n : ℕ) (w : List ℕ) (k : Step) → 0 < f .answers (suc n) w k .number)
+show-by-refusing f promised p = call-accepts f 1 (promised 1) (p 0)
+
+pub show-by-one-reply : (f : Program) → Promised f → (a : Answer) → ¬ ((n : ℕ) (w : List ℕ) (k : Step) → f .answers (suc n) w k ≡ a)
+show-by-one-reply f promised a p = call-varies f 1 (promised 1) a (λ w k good. p 0 w k)
+
+pub show-without-work : (f : Program) → Promised f → ¬ ((n : ℕ) (w : List ℕ) (k : Step) → f .leaves (suc n) w k ≡ w)
+show-without-work f promised p = call-works f 1 (promised 1) (p 0)
+
+-- ---- "the rules bind each step": a run
+
+-- the buffer after these steps, each put to what the one before left; and of each answer what a line of the record says of it. The first call is the call n
+unfoldable pub ran : Program → ℕ → List ℕ → List Step → List ℕ
+ran f n w [] = w
+ran f n w (k ∷ ks) = ran f (suc n) (f .leaves n w k) ks
+
+unfoldable pub told : Program → ℕ → List ℕ → List Step → List (List ℕ)
+told f n w [] = []
+told f n w (k ∷ ks) = columns (f .answers n w k) ∷ told f (suc n) (f .leaves n w k) ks
+
+-- the same of an outcome of the rules
+abbrev pub ruled : Outcome → List ℕ
+ruled o = answer o ∷ fields (report o .event) (report o .who)
+
+abbrev saying : Lent → List ℕ
+saying l = l .answer ∷ fields (l .report .event) (l .report .who)
+
+module _ (W : World) where
+  left-buffer : (o : Outcome) → left (image W) o .buffer ≡ image (after W o)
+  left-buffer (refusal x) = refl
+  left-buffer (done next e a b c) = refl
+
+  left-saying : (o : Outcome) → saying (left (image W) o) ≡ ruled o
+  left-saying (refusal x) = refl
+  left-saying (done next e a b c) = refl
+
+module _ (f : Program) (n : ℕ) (promised : PromisedAt f n) (W : World) (good : wellFormed W ≡ true) (k : Step) where
+  leaves-is : f .leaves n (image W) k ≡ image (after W (stepped W k))
+  unfolding lentOf
+  leaves-is = ap buffer (promised (image W) k ∙ step-of W good k) ∙ left-buffer W (stepped W k)
+
+  answers-is : columns (f .answers n (image W) k) ≡ ruled (stepped W k)
+  unfolding lentOf columns
+  answers-is = ap saying (promised (image W) k ∙ step-of W good k) ∙ left-saying W (stepped W k)
+
+-- after any steps from any good world the buffer is the image of the rules' last world, and each answer is that of the rules
+pub each-step : (f : Program) → Promised f → (n : ℕ) (W : World) → wellFormed W ≡ true → (ks : List Step)
+    → (ran f n (image W) ks ≡ image (lastWorld W ks)) × (told f n (image W) ks ≡ map ruled (outcomes W ks))
+unfolding ran told lastWorld outcomes
+each-step f promised n W good [] = (refl, refl)
+each-step f promised n W good (k ∷ ks) =
+    let next = leaves-is f n (promised n) W good k in
+    let rest = each-step f promised (suc n) (after W (stepped W k)) (step-keeps W k good) ks in
+    (rw next (rest .0), rw (next, answers-is f n (promised n) W good k, rest .1))
+
+-- so real work at the first call and none afterwards shows in a run of two steps: WRITE 0 77, DELIVER 0
+abbrev first : World → ℕ
+first w = placeRow (getD (w .places) 0 free) .kind
+
+pub show-in-a-run : (f : Program) → PromisedAt f 0 → ((n : ℕ) (w : List ℕ) (k : Step) → f .leaves (suc n) w k ≡ w)
+    → ¬ (ran f 0 one (write ∷ deliver ∷ []) ≡ image (lastWorld (start 1) (write ∷ deliver ∷ [])))
+unfolding ran recorded
+show-in-a-run f promised idle e =
+    let stays : image (lastWorld (start 1) (write ∷ [])) ≡ image (lastWorld (start 1) (write ∷ deliver ∷ [])) =
+    sym (idle 0 (f .leaves 0 one write) deliver ∙ leaves-is f 0 promised (start 1) one-formed write) ∙ e
+    in
+    differ first (image-injective (lastWorld (start 1) (write ∷ [])) (lastWorld (start 1) (write ∷ deliver ∷ [])) (run-keeps (start 1) (write ∷ []) one-formed) (run-keeps (start 1) (write ∷ deliver ∷ []) one-formed) stays) tt
+
+-- ---- "Invented totals are ruled out by the tie to the steps taken."
+
+-- what `world::run::rehearse` promises to leave in a buffer that the record fits into is that record, and the bytes past it as they were
+pub record-promised : (b world out : List ℕ) (mask : ℕ) (ks : List Step) → length world ≡ 65536 → sheetIn b ≡ sheet mask ks → length (printed mask ks) ≤ length out
+    → recordLeft b world out ≡ printed mask ks ++ drop (length (printed mask ks)) out
+unfolding recordLeft rehearsed
+record-promised b world out mask ks long e fits = rw (long, e) (laid-front out (printed mask ks) ∙ ap (λ (l : List ℕ). l ++ drop (length (printed mask ks)) out) (take-all (length out) (printed mask ks) fits))
+
+-- the totals of the promised record are sums over the steps taken, and what waits in the last world
+pub totals : (mask : ℕ) (ks : List Step) → let os = outcomes (start mask) ks in let waiting = waitingIn (lastWorld (start mask) ks .places) in
+    printed mask ks ≡ withTotals mask ks (sum deliveredBy os + sum droppedBy os + waiting) (sum deliveredBy os) (sum droppedBy os) waiting
+totals mask ks =
+    let os = outcomes (start mask) ks in
+    sym (printed-is mask ks)
+    ∙ ap (λ (sent : ℕ). withTotals mask ks sent (sum deliveredBy os) (sum droppedBy os) (waitingIn (lastWorld (start mask) ks .places))) (sent-is-sum mask ks)
+
+waiting-few : (ps : List Place) → waitingIn ps ≤ length ps
+unfolding waitingIn
+waiting-few [] = omega arith
+waiting-few (free ∷ ps) = omega (arith, waiting-few ps)
+waiting-few (state.waiting m ∷ ps) = omega (arith, waiting-few ps)
+
+after-all : (a b c : List ℕ) → a ++ b ≡ a ++ c → b ≡ c
+after-all a b c e = sym (drop-append-seam a b) ∙ ap (drop (length a)) e ∙ drop-append-seam a c
+
+in-order : (a b c t : List ℕ) → (a ++ (b ++ c)) ++ t ≡ a ++ (b ++ (c ++ t))
+in-order a b c t = append-assoc a (b ++ c) t ∙ ap (λ (l : List ℕ). a ++ l) (append-assoc b c t)
+
+module _ (mask : ℕ) (ks : List Step) (some : 0 < mask) (byte : mask < 256) (few : length ks ≤ 8000) where
+  abbrev os : List Outcome
+  os = outcomes (start mask) ks
+
+  abbrev waits : ℕ
+  waits = waitingIn (lastWorld (start mask) ks .places)
+
+  abbrev counted : List ℕ
+  counted = endOf (sum sentBy os) (sum deliveredBy os) (sum droppedBy os) waits
+
+  counted-small : Small (sum sentBy os) (sum deliveredBy os) (sum droppedBy os) waits
+  counted-small =
+      let d = few-delivered (start mask) ks in
+      let x = few-dropped (start mask) ks in
+      let w : waits ≤ 256 = omega (arith, waiting-few (lastWorld (start mask) ks .places), good-facts (lastWorld (start mask) ks) (always-good mask some byte ks) .many) in
+      record { first = omega (arith, sent-is-sum mask ks, d, x, w); second = omega (arith, d); third = omega (arith, x); fourth = omega (arith, w) }
+
+  -- a record of these steps that is the promised one has the counted totals, whatever bytes stand after it
+  pub totals-tied : (sent delivered dropped waiting : ℕ) (t u : List ℕ) → Small sent delivered dropped waiting
+      → withTotals mask ks sent delivered dropped waiting ++ t ≡ printed mask ks ++ u
+      → (sent ≡ sum sentBy os) × (delivered ≡ sum deliveredBy os) × (dropped ≡ sum droppedBy os) × (waiting ≡ waits)
+  totals-tied sent delivered dropped waiting t u small e =
+      let lines : List ℕ = stepLines 1 os in
+      let invented : List ℕ = endOf sent delivered dropped waiting in
+      let same : startOf mask ++ (lines ++ (invented ++ t)) ≡ startOf mask ++ (lines ++ (counted ++ u)) =
+      sym (in-order (startOf mask) lines invented t) ∙ e ∙ ap (λ (l : List ℕ). l ++ u) (sym (printed-is mask ks)) ∙ in-order (startOf mask) lines counted u
+      in
+      end-read sent delivered dropped waiting (sum sentBy os) (sum deliveredBy os) (sum droppedBy os) waits t u small counted-small
+      (after-all lines (invented ++ t) (counted ++ u) (after-all (startOf mask) (lines ++ (invented ++ t)) (lines ++ (counted ++ u)) same))
+
+  -- the same of what `world::run::rehearse` promises to leave in a buffer that the record fits into
+  pub rehearse-tied : (b world out : List ℕ) → length world ≡ 65536 → sheetIn b ≡ sheet mask ks → length (printed mask ks) ≤ length out
+      → (sent delivered dropped waiting : ℕ) (t : List ℕ) → Small sent delivered dropped waiting
+      → withTotals mask ks sent delivered dropped waiting ++ t ≡ recordLeft b world out
+      → (sent ≡ sum sentBy os) × (delivered ≡ sum deliveredBy os) × (dropped ≡ sum droppedBy os) × (waiting ≡ waits)
+  rehearse-tied b world out long e fits sent delivered dropped waiting t small same =
+      totals-tied sent delivered dropped waiting t (drop (length (printed mask ks)) out) small (same ∙ record-promised b world out mask ks long e fits)
+
+-- no four numbers are the totals of every run: not of a run without a step and of one with a WRITE
+pub invented-totals : (sent delivered dropped waiting : ℕ) → ¬ ((mask : ℕ) (ks : List Step) → withTotals mask ks sent delivered dropped waiting ≡ printed mask ks)
+unfolding recorded
+invented-totals sent delivered dropped waiting p =
+    let none : endOf sent delivered dropped waiting ≡ endOf 0 0 0 0 = ap (drop 8) (p 1 []) in
+    let some : endOf sent delivered dropped waiting ≡ endOf 1 0 0 1 = ap (drop 22) (p 1 (write ∷ [])) in
+    differ (entry 4) (sym none ∙ some) tt
+
+-- the same of `world::run::rehearse`: a program that lays the record of every sheet with these four totals does not keep its promise
+module _ (sent delivered dropped waiting : ℕ) (small : Small sent delivered dropped waiting) where
+  laid-counted : (b : List ℕ) (ks : List Step) → sheetIn b ≡ sheet 1 ks → length ks ≤ 8000
+      → ((out : List ℕ) → laid out 0 (withTotals 1 ks sent delivered dropped waiting) ≡ recordLeft b one out) → sent ≡ sum sentBy (outcomes (start 1) ks)
+  laid-counted b ks is few p =
+      let made : List ℕ = withTotals 1 ks sent delivered dropped waiting in
+      let out : List ℕ = replicate (length made + length (printed 1 ks)) 0 in
+      let long : length out ≡ length made + length (printed 1 ks) = length-replicate (length made + length (printed 1 ks)) 0 in
+      let whole : laid out 0 made ≡ made ++ drop (length made) out = laid-front out made ∙ ap (λ (l : List ℕ). l ++ drop (length made) out) (take-all (length out) made (omega (arith, long))) in
+      rehearse-tied 1 ks (omega arith) (omega arith) few b one out (length-image (start 1)) is (omega (arith, long)) sent delivered dropped waiting (drop (length made) out) small (sym whole ∙ p out) .0
+
+  pub rehearse-invented : ¬ ((b world out : List ℕ) (mask : ℕ) (ks : List Step) → sheetIn b ≡ sheet mask ks → laid out 0 (withTotals mask ks sent delivered dropped waiting) ≡ recordLeft b world out)
+  unfolding recorded sheetIn stepsIn allZerosIn
+  rehearse-invented p =
+      let none : sent ≡ 0 = laid-counted blank [] refl (omega arith) (λ out. p blank one out 1 [] refl) in
+      let some : sent ≡ 1 = laid-counted written (write ∷ []) refl (omega arith) (λ out. p written one out 1 (write ∷ []) refl) in
+      omega (arith, none, some)

@@ -1,0 +1,209 @@
+-- Wrong programs that the promises rule out: image, the rows of a world. Assumes nothing.
+use mathlib.Core.Path.{_≡_}
+use mathlib.Core.Bool.{true, false}
+use mathlib.Core.List.{List, [], _∷_, _++_}
+use Prim.Native.Nat.{ℕ, _+_, _*_}
+use lib.ListN.{length, getD, replicate}
+use Rattle.views.specs.Row.{viewsOf, rowOf}
+use Rattle.views.specs.declared.Sequence.{Sequence}
+use Rattle.stamps.specs.declared.Pair.{Pair}
+use Rattle.stamps.specs.Stamp.{freshPair}
+use Rattle.rows.specs.Bytes.{splice, placed, bytesOf, numberAt, be16, be32, u16At, run, tab, cat, zeros}
+use Rattle.rules.specs.State.{withKnown}
+use Rattle.rules.specs.State as state
+use Rattle.rules.specs.Image.{byte, flagAt, sequenceBytes, sequenceAt, pairBytes, pairAt, headBytes, generatorBytes, generatorAt, transferBytes, transferAt, deskBytes, deskAt, Row, row, rowBytes, rowAt}
+use Rattle.rules.specs.declared.Desk.{Desk}
+use Rattle.rules.specs.declared.Phase.the-variants.{Read1}
+use Rattle.state.specs.declared.Notes.{Notes}
+use Rattle.state.specs.declared.Generator.{Generator}
+use Rattle.state.specs.declared.Transfer.{Transfer}
+use Rattle.state.specs.declared.Head.{Head}
+use Rattle.state.specs.declared.Message.{Message}
+use Rattle.state.specs.Meaning.{notesOf, generatorOf, transferOf, relayOf}
+use Rattle.image.specs.Parts.{notesBytes, notesAt, headAt, addressedRow, messageRow}
+use Rattle.certificate.proofs.Differ.{differ, truth, entry}
+
+-- ---- image; {3} and {3, 7} as they stand in a buffer, and how many views a sequence has
+
+abbrev sequence : Sequence
+sequence = rowOf (3 ∷ [])
+
+abbrev manyIn : List (List ℕ) → ℕ → ℕ
+manyIn ns i = length (getD ns i [])
+
+pub image-sequence-at-all-fifteen : ¬ ((s : List ℕ) (at : ℕ) → tab 15 (λ k. u16At s (at + 2 * k)) ≡ sequenceAt s at)
+unfolding numberAt tab bytesOf run sequenceBytes sequenceAt
+image-sequence-at-all-fifteen p = differ length (p (sequenceBytes (3 ∷ 7 ∷ [])) 0) tt
+
+pub image-sequence-at-the-next : ¬ ((s : List ℕ) (at : ℕ) → sequenceAt s (at + 31) ≡ sequenceAt s at)
+unfolding numberAt tab bytesOf run sequenceBytes sequenceAt
+image-sequence-at-the-next p = differ length (p (sequenceBytes (3 ∷ 7 ∷ [])) 0) tt
+
+pub image-put-sequence-nowhere : ¬ ((s : List ℕ) (at : ℕ) (q : Sequence) → s ≡ placed s at (sequenceBytes (viewsOf q)))
+unfolding viewsOf rowOf placed splice bytesOf run zeros sequenceBytes
+image-put-sequence-nowhere p = differ (entry 30) (p (zeros 31) 0 sequence) tt
+
+pub image-put-sequence-without-its-length : ¬ ((s : List ℕ) (at : ℕ) (q : Sequence) → placed s at (run 15 (λ k. be16 (getD (viewsOf q) k 0))) ≡ placed s at (sequenceBytes (viewsOf q)))
+unfolding viewsOf rowOf placed splice bytesOf run zeros sequenceBytes
+image-put-sequence-without-its-length p = differ (entry 30) (p (zeros 31) 0 sequence) tt
+
+-- stamp (1, 2) and value 77
+abbrev pair : Pair
+pair = record { stamp = record { count = 1; desk = 2 }; value = 77 }
+
+abbrev value : Pair → ℕ
+value p = p .value
+
+pub image-pair-at-the-next : ¬ ((s : List ℕ) (at : ℕ) → pairAt s (at + 1) ≡ pairAt s at)
+unfolding numberAt pairAt
+image-pair-at-the-next p = differ value (p (0 ∷ 1 ∷ 2 ∷ 0 ∷ 0 ∷ 0 ∷ 77 ∷ []) 0) tt
+
+pub image-pair-at-low-half-only : ¬ ((s : List ℕ) (at : ℕ) → record { stamp = record { count = u16At s at; desk = getD s (at + 2) 0 }; value = u16At s (at + 3) } ≡ pairAt s at)
+unfolding numberAt pairAt
+image-pair-at-low-half-only p = differ value (p (0 ∷ 1 ∷ 2 ∷ 0 ∷ 0 ∷ 0 ∷ 77 ∷ []) 0) tt
+
+pub image-put-pair-nowhere : ¬ ((s : List ℕ) (at : ℕ) (p : Pair) → s ≡ placed s at (pairBytes p))
+unfolding placed splice bytesOf run zeros cat pairBytes
+image-put-pair-nowhere p = differ (entry 6) (p (zeros 7) 0 pair) tt
+
+pub image-put-pair-value-first : ¬ ((s : List ℕ) (at : ℕ) (p : Pair) → placed s at (cat (be32 (p .value) ∷ be16 (p .stamp .count) ∷ byte (p .stamp .desk) ∷ [])) ≡ placed s at (pairBytes p))
+unfolding placed splice bytesOf run zeros cat pairBytes
+image-put-pair-value-first p = differ (entry 6) (p (zeros 7) 0 pair) tt
+
+-- alive, entered and not active, of view 3, known view 7
+abbrev headRow : List ℕ
+headRow = 1 ∷ 1 ∷ 0 ∷ 0 ∷ 3 ∷ 0 ∷ 7 ∷ []
+
+abbrev head : Head
+head = record { alive = true; entered = true; active = false; view = 3; known = 7; pending = 0; holds = pair }
+
+pub image-head-at-the-next : ¬ ((s : List ℕ) (at : ℕ) → headAt s (at + 64) ≡ headAt s at)
+unfolding numberAt pairAt headAt
+image-head-at-the-next p = differ (λ (h : Head). h .view) (p headRow 0) tt
+
+pub image-head-at-active-from-entered : ¬ ((s : List ℕ) (at : ℕ) → record { alive = flagAt s at; entered = flagAt s (at + 1); active = flagAt s (at + 1); view = u16At s (at + 3); known = u16At s (at + 5); pending = u16At s (at + 7); holds = pairAt s (at + 9) } ≡ headAt s at)
+unfolding numberAt pairAt headAt
+image-head-at-active-from-entered p = differ (λ (h : Head). truth (h .active)) (p headRow 0) tt
+
+pub image-put-head-nowhere : ¬ ((s : List ℕ) (at : ℕ) (h : Head) → s ≡ placed s at (headBytes (relayOf h [] [])))
+unfolding placed splice bytesOf run zeros cat pairBytes headBytes relayOf
+image-put-head-nowhere p = differ (entry 0) (p (zeros 64) 0 head) tt
+
+pub image-put-head-without-known : ¬ ((s : List ℕ) (at : ℕ) (h : Head) → placed s at (headBytes (withKnown (relayOf h [] []) 0)) ≡ placed s at (headBytes (relayOf h [] [])))
+unfolding placed splice bytesOf run zeros cat pairBytes headBytes relayOf withKnown
+image-put-head-without-known p = differ (entry 6) (p (zeros 64) 0 head) tt
+
+-- relay 1 alone has noted {3}
+abbrev notes : Notes
+notes = record { of = rowOf [] ∷ sequence ∷ replicate 6 (rowOf []) }
+
+pub image-notes-at-from-the-next : ¬ ((s : List ℕ) (at : ℕ) → notesAt s (at + 31) ≡ notesAt s at)
+unfolding numberAt tab bytesOf run sequenceBytes sequenceAt notesAt
+image-notes-at-from-the-next p = differ (λ ns. manyIn ns 0) (p (sequenceBytes (3 ∷ [])) 0) tt
+
+pub image-notes-at-the-first-eight-times : ¬ ((s : List ℕ) (at : ℕ) → replicate 8 (sequenceAt s at) ≡ notesAt s at)
+unfolding numberAt tab bytesOf run sequenceBytes sequenceAt notesAt
+image-notes-at-the-first-eight-times p = differ (λ ns. manyIn ns 1) (p (sequenceBytes (3 ∷ [])) 0) tt
+
+pub image-put-notes-nowhere : ¬ ((s : List ℕ) (at : ℕ) (n : Notes) → s ≡ placed s at (notesBytes (notesOf n)))
+unfolding viewsOf rowOf notesOf placed splice bytesOf run zeros sequenceBytes notesBytes
+image-put-notes-nowhere p = differ (entry 61) (p (zeros 248) 0 notes) tt
+
+pub image-put-notes-first-only : ¬ ((s : List ℕ) (at : ℕ) (n : Notes) → placed s at (sequenceBytes (getD (notesOf n) 0 [])) ≡ placed s at (notesBytes (notesOf n)))
+unfolding viewsOf rowOf notesOf placed splice bytesOf run zeros sequenceBytes notesBytes
+image-put-notes-first-only p = differ (entry 61) (p (zeros 248) 0 notes) tt
+
+-- the generator for 1 with own {3}, and one whose own and converged are exchanged
+abbrev generator : Generator
+generator = record { view = 1; own = sequence; converged = rowOf []; raised = rowOf []; proposals = notes; convergences = notes }
+
+abbrev exchanged : state.Generator → state.Generator
+exchanged g = record { view = g .view; own = g .converged; converged = g .own; raised = g .raised; proposals = g .proposals; convergences = g .convergences }
+
+abbrev manyOwn : state.Generator → ℕ
+manyOwn g = length (g .own)
+
+pub image-generator-at-the-next : ¬ ((s : List ℕ) (at : ℕ) → generatorAt s (at + 592) ≡ generatorAt s at)
+unfolding numberAt tab bytesOf run sequenceBytes sequenceAt generatorAt
+image-generator-at-the-next p = differ manyOwn (p (be16 1 ++ sequenceBytes (3 ∷ [])) 0) tt
+
+pub image-generator-at-own-for-converged : ¬ ((s : List ℕ) (at : ℕ) → exchanged (generatorAt s at) ≡ generatorAt s at)
+unfolding numberAt tab bytesOf run sequenceBytes sequenceAt generatorAt
+image-generator-at-own-for-converged p = differ manyOwn (p (be16 1 ++ sequenceBytes (3 ∷ [])) 0) tt
+
+pub image-put-generator-nowhere : ¬ ((s : List ℕ) (at : ℕ) (g : Generator) → s ≡ placed s at (generatorBytes (generatorOf g)))
+unfolding viewsOf rowOf notesOf generatorOf placed splice bytesOf run zeros cat sequenceBytes generatorBytes
+image-put-generator-nowhere p = differ (entry 32) (p (zeros 592) 0 generator) tt
+
+pub image-put-generator-own-for-converged : ¬ ((s : List ℕ) (at : ℕ) (g : Generator) → placed s at (generatorBytes (exchanged (generatorOf g))) ≡ placed s at (generatorBytes (generatorOf g)))
+unfolding viewsOf rowOf notesOf generatorOf placed splice bytesOf run zeros cat sequenceBytes generatorBytes
+image-put-generator-own-for-converged p = differ (entry 32) (p (zeros 592) 0 generator) tt
+
+-- the transfer from 1 to 3, and one the other way
+abbrev transfer : Transfer
+transfer = record { old = 1; new = 3; sequence = sequence; senders = 1; best = pair; gathered = 0 }
+
+abbrev backwards : state.Transfer → state.Transfer
+backwards t = record { old = t .new; new = t .old; sequence = t .sequence; senders = t .senders; best = t .best; gathered = t .gathered }
+
+pub image-transfer-at-the-next : ¬ ((s : List ℕ) (at : ℕ) → transferAt s (at + 80) ≡ transferAt s at)
+unfolding numberAt tab sequenceAt pairAt transferAt
+image-transfer-at-the-next p = differ (λ (t : state.Transfer). t .old) (p (0 ∷ 1 ∷ 0 ∷ 3 ∷ []) 0) tt
+
+pub image-transfer-at-backwards : ¬ ((s : List ℕ) (at : ℕ) → backwards (transferAt s at) ≡ transferAt s at)
+unfolding numberAt tab sequenceAt pairAt transferAt
+image-transfer-at-backwards p = differ (λ (t : state.Transfer). t .old) (p (0 ∷ 1 ∷ 0 ∷ 3 ∷ []) 0) tt
+
+pub image-put-transfer-nowhere : ¬ ((s : List ℕ) (at : ℕ) (t : Transfer) → s ≡ placed s at (transferBytes (transferOf t)))
+unfolding viewsOf rowOf transferOf placed splice bytesOf run zeros cat sequenceBytes pairBytes transferBytes
+image-put-transfer-nowhere p = differ (entry 1) (p (zeros 80) 0 transfer) tt
+
+pub image-put-transfer-backwards : ¬ ((s : List ℕ) (at : ℕ) (t : Transfer) → placed s at (transferBytes (backwards (transferOf t))) ≡ placed s at (transferBytes (transferOf t)))
+unfolding viewsOf rowOf transferOf placed splice bytesOf run zeros cat sequenceBytes pairBytes transferBytes
+image-put-transfer-backwards p = differ (entry 1) (p (zeros 80) 0 transfer) tt
+
+-- a desk in read 1 whose best reply has value 77, and one whose best reply is taken for what it holds
+abbrev desk : Desk
+desk = record { alive = true; view = 1; phase = Read1; tries = 5; holds = freshPair; replied = 1; best = pair; agreed = true }
+
+abbrev bestHeld : Desk → Desk
+bestHeld d = record { alive = d .alive; view = d .view; phase = d .phase; tries = d .tries; holds = d .best; replied = d .replied; best = d .best; agreed = d .agreed }
+
+pub image-desk-at-the-next : ¬ ((s : List ℕ) (at : ℕ) → deskAt s (at + 64) ≡ deskAt s at)
+unfolding numberAt bytesOf run zeros cat pairAt deskAt pairBytes deskBytes
+image-desk-at-the-next p = differ (λ (d : Desk). d .tries) (p (deskBytes desk) 0) tt
+
+pub image-desk-at-best-as-held : ¬ ((s : List ℕ) (at : ℕ) → bestHeld (deskAt s at) ≡ deskAt s at)
+unfolding numberAt bytesOf run zeros cat pairAt deskAt pairBytes deskBytes
+image-desk-at-best-as-held p = differ (λ (d : Desk). d .holds .value) (p (deskBytes desk) 0) tt
+
+pub image-put-desk-nowhere : ¬ ((s : List ℕ) (at : ℕ) (d : Desk) → s ≡ placed s at (deskBytes d))
+unfolding placed splice bytesOf run zeros cat pairBytes deskBytes
+image-put-desk-nowhere p = differ (entry 0) (p (zeros 64) 0 desk) tt
+
+pub image-put-desk-best-as-held : ¬ ((s : List ℕ) (at : ℕ) (d : Desk) → placed s at (deskBytes (bestHeld d)) ≡ placed s at (deskBytes d))
+unfolding placed splice bytesOf run zeros cat pairBytes deskBytes
+image-put-desk-best-as-held p = differ (entry 12) (p (zeros 64) 0 desk) tt
+
+-- a view message of view 3 from relay 0 to relay 1, and one whose sender and receiver are exchanged
+abbrev message : Message
+message = record { from = 0; to = 1; body = record { kind = 2; first = 3; second = 0; tries = 0; sequence = rowOf []; pair = freshPair; updates = 0 } }
+
+abbrev returned : Row → Row
+returned m = row (m .kind) (m .to) (m .from) (m .first) (m .second) (m .tries) (m .sequence) (m .pair) (m .updates)
+
+pub image-message-at-the-next : ¬ ((s : List ℕ) (at : ℕ) → rowAt s (at + 80) ≡ rowAt s at)
+unfolding numberAt tab sequenceAt pairAt rowAt
+image-message-at-the-next p = differ (λ (m : Row). m .kind) (p (2 ∷ 0 ∷ 1 ∷ 0 ∷ 3 ∷ []) 0) tt
+
+pub image-message-at-sender-for-receiver : ¬ ((s : List ℕ) (at : ℕ) → returned (rowAt s at) ≡ rowAt s at)
+unfolding numberAt tab sequenceAt pairAt rowAt
+image-message-at-sender-for-receiver p = differ (λ (m : Row). m .to) (p (2 ∷ 0 ∷ 1 ∷ 0 ∷ 3 ∷ []) 0) tt
+
+pub image-put-message-nowhere : ¬ ((s : List ℕ) (at : ℕ) (m : Message) → s ≡ placed s at (rowBytes (messageRow m)))
+unfolding viewsOf rowOf placed splice bytesOf run zeros cat sequenceBytes pairBytes rowBytes addressedRow messageRow
+image-put-message-nowhere p = differ (entry 0) (p (zeros 80) 0 message) tt
+
+pub image-put-message-sender-for-receiver : ¬ ((s : List ℕ) (at : ℕ) (m : Message) → placed s at (rowBytes (returned (messageRow m))) ≡ placed s at (rowBytes (messageRow m)))
+unfolding viewsOf rowOf placed splice bytesOf run zeros cat sequenceBytes pairBytes rowBytes addressedRow messageRow
+image-put-message-sender-for-receiver p = differ (entry 1) (p (zeros 80) 0 message) tt

@@ -1,0 +1,366 @@
+-- Wrong programs that the promises rule out: messages, generator, relay and desk. Where a promise speaks of what a result means, so does the wrong program.
+-- Assumes nothing.
+use mathlib.Core.Path.{_≡_}
+use mathlib.Core.Bool.{Bool, true, false, not}
+use mathlib.Core.List.{List, [], _∷_}
+use Prim.Native.Nat.{ℕ, _+_}
+use lib.Bits.{bitAnd}
+use lib.Count.{ones, onesIn}
+use lib.Dec.{eqb, leb}
+use lib.ListN.{length, getD, set, drop, replicate}
+use Rattle.views.specs.View.{membersOf, memberOf, quorumOf, reachesOf, insideOf, clashOf}
+use Rattle.views.specs.Chain.{some, sameOf, leastOf, plusOf, unionOf, heardOf}
+use Rattle.views.specs.Row.{viewsOf, rowOf}
+use Rattle.views.specs.declared.Sequence.{Sequence}
+use Rattle.stamps.specs.Stamp.{signOf, comparedOf, greaterOf, greatestOf, freshPair}
+use Rattle.stamps.specs.Stamp as stamps
+use Rattle.stamps.specs.declared.Pair.{Pair}
+use Rattle.rules.specs.Sets.{joins, all}
+use Rattle.rules.specs.Messages as rules
+use Rattle.rules.specs.State.{noRelay, noDesk, withHolds, withGenerators}
+use Rattle.rules.specs.State as state
+use Rattle.rules.specs.Generators as generators
+use Rattle.rules.specs.Relays as relays
+use Rattle.rules.specs.Desks.{cleared}
+use Rattle.rules.specs.Desks as desks
+use Rattle.rules.specs.Image.{phaseNumber, bodyRow, bodyIn}
+use Rattle.rules.specs.declared.Desk.{Desk}
+use Rattle.rules.specs.declared.Phase.{Phase}
+use Rattle.rules.specs.declared.Phase.the-variants.{Idle, Read1}
+use Rattle.state.specs.declared.Notes.{Notes}
+use Rattle.state.specs.declared.Generator.{Generator}
+use Rattle.state.specs.declared.Part.{Part}
+use Rattle.state.specs.declared.Body.{Body}
+use Rattle.state.specs.Meaning.{notesOf, generatorOf, relayOf, partOf, bodyOf}
+use Rattle.state.specs.Plans.{noSending, Turned, turned, Planned, planned}
+use Rattle.messages.specs.Made.{blankOf, fieldsOf, toOneOf}
+use Rattle.generator.specs.Heard.{mergedInRow, hearsInRow, heardInRow}
+use Rattle.relay.specs.Fitting.{fitting, joinAnswer, timerAnswer, hearsAnswer}
+use Rattle.relay.specs.Fitting as fit
+use Rattle.desk.specs.Replies.{replyNoted}
+use Rattle.certificate.proofs.Differ.{differ, itself, truth}
+
+-- ---- messages
+
+-- what a body says: its kind's number (Image), and its fields
+abbrev kind : rules.Body → ℕ
+kind m = bodyRow 0 0 m .kind
+
+abbrev about : rules.Body → ℕ
+about m = bodyRow 0 0 m .first
+
+abbrev tries : rules.Body → ℕ
+tries m = bodyRow 0 0 m .tries
+
+abbrev many : rules.Body → ℕ
+many m = length (bodyRow 0 0 m .sequence)
+
+abbrev value : rules.Body → ℕ
+value m = bodyRow 0 0 m .pair .value
+
+abbrev updates : rules.Body → ℕ
+updates m = bodyRow 0 0 m .updates
+
+abbrev pair : Pair
+pair = record { stamp = record { count = 1; desk = 0 }; value = 77 }
+
+pub messages-request-exchanged : ¬ ((u c : ℕ) → rules.request c u ≡ rules.request u c)
+messages-request-exchanged p = differ updates (p 2 1) tt
+
+pub messages-request-for-the-view-it-gives : ¬ ((u c : ℕ) → rules.request u (u + c) ≡ rules.request u c)
+messages-request-for-the-view-it-gives p = differ about (p 2 1) tt
+
+pub messages-view-of-the-members : ¬ ((v : ℕ) → rules.view (membersOf v) ≡ rules.view v)
+messages-view-of-the-members p = differ about (p 257) tt
+
+pub messages-view-as-a-reply : ¬ ((v : ℕ) → rules.viewReply 0 v ≡ rules.view v)
+messages-view-as-a-reply p = differ kind (p 1) tt
+
+pub messages-proposal-as-converged : ¬ ((v : ℕ) (q : Sequence) → rules.converged v (viewsOf q) ≡ rules.proposal v (viewsOf q))
+unfolding viewsOf rowOf
+messages-proposal-as-converged p = differ kind (p 1 (rowOf (3 ∷ []))) tt
+
+pub messages-proposal-of-one-view : ¬ ((v : ℕ) (q : Sequence) → rules.proposal v (leastOf (viewsOf q) ∷ []) ≡ rules.proposal v (viewsOf q))
+unfolding viewsOf rowOf
+messages-proposal-of-one-view p = differ many (p 1 (rowOf (3 ∷ 7 ∷ []))) tt
+
+pub messages-converged-as-proposal : ¬ ((v : ℕ) (q : Sequence) → rules.proposal v (viewsOf q) ≡ rules.converged v (viewsOf q))
+unfolding viewsOf rowOf
+messages-converged-as-proposal p = differ kind (p 1 (rowOf (3 ∷ []))) tt
+
+pub messages-converged-for-the-least : ¬ ((v : ℕ) (q : Sequence) → rules.converged (leastOf (viewsOf q)) (viewsOf q) ≡ rules.converged v (viewsOf q))
+unfolding viewsOf rowOf
+messages-converged-for-the-least p = differ about (p 1 (rowOf (3 ∷ []))) tt
+
+pub messages-install-exchanged : ¬ ((o w : ℕ) (q : Sequence) → rules.install w o (viewsOf q) ≡ rules.install o w (viewsOf q))
+unfolding viewsOf rowOf
+messages-install-exchanged p = differ about (p 1 3 (rowOf (3 ∷ []))) tt
+
+pub messages-install-without-its-least : ¬ ((o w : ℕ) (q : Sequence) → rules.install o w (drop 1 (viewsOf q)) ≡ rules.install o w (viewsOf q))
+unfolding viewsOf rowOf
+messages-install-without-its-least p = differ many (p 1 3 (rowOf (3 ∷ []))) tt
+
+pub messages-state-without-its-pair : ¬ ((o w : ℕ) (p : Pair) (updates : ℕ) → rules.state o w freshPair updates ≡ rules.state o w p updates)
+messages-state-without-its-pair p = differ value (p 1 3 pair 4) tt
+
+pub messages-state-without-updates : ¬ ((o w : ℕ) (p : Pair) (updates : ℕ) → rules.state o w p 0 ≡ rules.state o w p updates)
+messages-state-without-updates p = differ updates (p 1 3 pair 4) tt
+
+pub messages-get-of-the-next-try : ¬ ((tries c : ℕ) → rules.get (tries + 1) c ≡ rules.get tries c)
+messages-get-of-the-next-try p = differ tries (p 5 1) tt
+
+pub messages-get-of-no-try : ¬ ((tries c : ℕ) → rules.get 0 c ≡ rules.get tries c)
+messages-get-of-no-try p = differ tries (p 5 1) tt
+
+pub messages-put-as-get : ¬ ((tries c : ℕ) (p : Pair) → rules.get tries c ≡ rules.put tries c p)
+messages-put-as-get p = differ kind (p 5 1 pair) tt
+
+pub messages-put-without-its-pair : ¬ ((tries c : ℕ) (p : Pair) → rules.put tries c freshPair ≡ rules.put tries c p)
+messages-put-without-its-pair p = differ value (p 5 1 pair) tt
+
+pub messages-view-reply-as-a-view : ¬ ((tries v : ℕ) → rules.view v ≡ rules.viewReply tries v)
+messages-view-reply-as-a-view p = differ kind (p 5 1) tt
+
+pub messages-view-reply-of-no-try : ¬ ((tries v : ℕ) → rules.viewReply 0 v ≡ rules.viewReply tries v)
+messages-view-reply-of-no-try p = differ tries (p 5 1) tt
+
+pub messages-pair-reply-as-ack : ¬ ((tries : ℕ) (p : Pair) → rules.ack tries ≡ rules.pairReply tries p)
+messages-pair-reply-as-ack p = differ kind (p 5 pair) tt
+
+pub messages-pair-reply-without-its-pair : ¬ ((tries : ℕ) (p : Pair) → rules.pairReply tries freshPair ≡ rules.pairReply tries p)
+messages-pair-reply-without-its-pair p = differ value (p 5 pair) tt
+
+pub messages-ack-of-no-try : ¬ ((tries : ℕ) → rules.ack 0 ≡ rules.ack tries)
+messages-ack-of-no-try p = differ tries (p 5) tt
+
+pub messages-ack-as-a-pair : ¬ ((tries : ℕ) → rules.pairReply tries freshPair ≡ rules.ack tries)
+messages-ack-as-a-pair p = differ kind (p 5) tt
+
+-- a view message with a field that its kind does not say; a Get of try 5 for view 1
+abbrev unclean : Body
+unclean = record { kind = 2; first = 1; second = 0; tries = 0; sequence = rowOf []; pair = freshPair; updates = 9 }
+
+pub messages-plain-as-it-is : ¬ ((b : Body) → fieldsOf b ≡ bodyRow 0 0 (bodyOf b))
+unfolding fieldsOf bodyOf bodyIn viewsOf rowOf
+messages-plain-as-it-is p = differ (λ m. m .updates) (p unclean) tt
+
+pub messages-plain-emptied : ¬ ((b : Body) → bodyRow 0 0 (rules.ack 0) ≡ bodyRow 0 0 (bodyOf b))
+unfolding fieldsOf bodyOf bodyIn viewsOf rowOf
+messages-plain-emptied p = differ (λ m. m .kind) (p unclean) tt
+
+abbrev receivers : rules.Sending → ℕ
+receivers s = s .receivers
+
+pub messages-no-sending-to-all : ¬ (rules.toMembers 255 (rules.ack 0) ≡ noSending)
+messages-no-sending-to-all p = differ receivers p tt
+
+pub messages-no-sending-to-relay-0 : ¬ (rules.toOne 0 (rules.ack 0) ≡ noSending)
+messages-no-sending-to-relay-0 p = differ receivers p tt
+
+pub messages-to-members-who-left-too : ¬ ((v : ℕ) (body : Body) → record { body = bodyOf body; receivers = v } ≡ rules.toMembers v (bodyOf body))
+messages-to-members-who-left-too p = differ receivers (p 257 (blankOf 11)) tt
+
+pub messages-to-members-to-nobody : ¬ ((v : ℕ) (body : Body) → record { body = bodyOf body; receivers = 0 } ≡ rules.toMembers v (bodyOf body))
+messages-to-members-to-nobody p = differ receivers (p 3 (blankOf 11)) tt
+
+pub messages-to-both-to-old-members-only : ¬ ((v w : ℕ) (body : Body) → rules.toMembers v (bodyOf body) ≡ rules.toBoth v w (bodyOf body))
+messages-to-both-to-old-members-only p = differ receivers (p 1 3 (blankOf 11)) tt
+
+pub messages-to-both-to-members-of-both : ¬ ((v w : ℕ) (body : Body) → record { body = bodyOf body; receivers = bitAnd (membersOf v) (membersOf w) } ≡ rules.toBoth v w (bodyOf body))
+messages-to-both-to-members-of-both p = differ receivers (p 1 3 (blankOf 11)) tt
+
+pub messages-to-one-number-as-a-set : ¬ ((s : ℕ) (body : Body) → record { body = bodyOf body; receivers = s } ≡ toOneOf s (bodyOf body))
+messages-to-one-number-as-a-set p = differ receivers (p 0 (blankOf 11)) tt
+
+pub messages-to-one-to-all : ¬ ((s : ℕ) (body : Body) → rules.toMembers 255 (bodyOf body) ≡ toOneOf s (bodyOf body))
+messages-to-one-to-all p = differ receivers (p 0 (blankOf 11)) tt
+
+-- ---- generator
+
+abbrev notes : Notes
+notes = record { of = replicate 8 (rowOf []) }
+
+-- relay 1 alone has noted {3}
+abbrev noteOfOne : Notes
+noteOfOne = record { of = rowOf [] ∷ rowOf (3 ∷ []) ∷ replicate 6 (rowOf []) }
+
+-- the generator for v, with this own and this last raised sequence, and nothing else
+abbrev generator : ℕ → List ℕ → List ℕ → Generator
+generator v own raised = record { view = v; own = rowOf own; converged = rowOf []; raised = rowOf raised; proposals = notes; convergences = notes }
+
+pub generator-fresh-of-no-view : ¬ ((v : ℕ) → generators.fresh 0 ≡ generators.fresh v)
+unfolding generators.fresh
+generator-fresh-of-no-view p = differ (λ g. g .view) (p 1) tt
+
+pub generator-fresh-proposes-its-view : ¬ ((v : ℕ) → generators.withOwn (generators.fresh v) (v ∷ []) ≡ generators.fresh v)
+unfolding generators.fresh generators.withOwn
+generator-fresh-proposes-its-view p = differ (λ g. length (g .own)) (p 1) tt
+
+abbrev ofZero : List (List ℕ) → ℕ
+ofZero ns = length (getD ns 0 [])
+
+pub generator-noted-for-the-next : ¬ ((n : Notes) (from : ℕ) (q : Sequence) → set (notesOf n) (from + 1) (viewsOf q) ≡ set (notesOf n) from (viewsOf q))
+unfolding notesOf viewsOf rowOf
+generator-noted-for-the-next p = differ ofZero (p notes 0 (rowOf (3 ∷ []))) tt
+
+pub generator-noted-not-at-all : ¬ ((n : Notes) (from : ℕ) (q : Sequence) → notesOf n ≡ set (notesOf n) from (viewsOf q))
+unfolding notesOf viewsOf rowOf
+generator-noted-not-at-all p = differ ofZero (p notes 0 (rowOf (3 ∷ []))) tt
+
+pub generator-agreeing-how-many : ¬ ((n : Notes) (q : Sequence) → ones (generators.noted (notesOf n) (viewsOf q)) ≡ generators.noted (notesOf n) (viewsOf q))
+unfolding notesOf viewsOf rowOf sameOf generators.noted ones onesIn
+generator-agreeing-how-many p = differ itself (p noteOfOne (rowOf (3 ∷ []))) tt
+
+pub generator-agreeing-everybody : ¬ ((n : Notes) (q : Sequence) → 255 ≡ generators.noted (notesOf n) (viewsOf q))
+unfolding notesOf viewsOf rowOf sameOf generators.noted
+generator-agreeing-everybody p = differ itself (p noteOfOne (rowOf (3 ∷ []))) tt
+
+pub generator-agree-by-one : ¬ ((v : ℕ) (n : Notes) (q : Sequence) → not (eqb (generators.noted (notesOf n) (viewsOf q)) 0) ≡ generators.agree v (notesOf n) (viewsOf q))
+unfolding notesOf viewsOf rowOf sameOf generators.noted ones onesIn reachesOf
+generator-agree-by-one p = differ truth (p 3 noteOfOne (rowOf (3 ∷ []))) tt
+
+pub generator-agree-by-others-too : ¬ ((v : ℕ) (n : Notes) (q : Sequence) → leb (quorumOf v) (ones (generators.noted (notesOf n) (viewsOf q))) ≡ generators.agree v (notesOf n) (viewsOf q))
+unfolding notesOf viewsOf rowOf sameOf generators.noted ones onesIn reachesOf
+generator-agree-by-others-too p = differ truth (p 1 noteOfOne (rowOf (3 ∷ []))) tt
+
+abbrev firstTo : Turned → ℕ
+firstTo t = t .first .receivers
+
+pub generator-proposes-though-it-has : ¬ ((g : Generator) (q : Sequence) → turned (record { next = generators.withOwn (generatorOf g) (viewsOf q); sendings = rules.toMembers (g .view) (rules.proposal (g .view) (viewsOf q)) ∷ [] }) ≡ turned (generators.proposes (generatorOf g) (viewsOf q)))
+unfolding generatorOf notesOf viewsOf rowOf generators.proposes generators.withOwn turned
+generator-proposes-though-it-has p = differ firstTo (p (generator 1 (3 ∷ []) []) (rowOf (7 ∷ []))) tt
+
+pub generator-proposes-in-silence : ¬ ((g : Generator) (q : Sequence) → turned (record { next = generators.withOwn (generatorOf g) (viewsOf q); sendings = [] }) ≡ turned (generators.proposes (generatorOf g) (viewsOf q)))
+unfolding generatorOf notesOf viewsOf rowOf generators.proposes generators.withOwn turned
+generator-proposes-in-silence p = differ firstTo (p (generator 1 [] []) (rowOf (7 ∷ []))) tt
+
+pub generator-proposal-heard-without-settling : ¬ ((g : Generator) (from : ℕ) (q : Sequence) → turned (hearsInRow (generatorOf g) from (viewsOf q)) ≡ turned (heardInRow (generatorOf g) from (viewsOf q)))
+unfolding generatorOf notesOf viewsOf rowOf some insideOf clashOf plusOf unionOf heardOf sameOf ones onesIn reachesOf generators.withOwn generators.noted generators.hears generators.settles mergedInRow hearsInRow heardInRow turned
+generator-proposal-heard-without-settling p = differ (λ (t : Turned). length (t .next .converged)) (p (generator 1 [] []) 0 (rowOf (3 ∷ []))) tt
+
+pub generator-proposal-heard-without-a-note : ¬ ((g : Generator) (from : ℕ) (q : Sequence) → turned (heardInRow (generatorOf g) 8 (viewsOf q)) ≡ turned (heardInRow (generatorOf g) from (viewsOf q)))
+unfolding generatorOf notesOf viewsOf rowOf some insideOf clashOf plusOf unionOf heardOf sameOf ones onesIn reachesOf generators.withOwn generators.noted generators.hears generators.settles mergedInRow hearsInRow heardInRow turned
+generator-proposal-heard-without-a-note p = differ (λ (t : Turned). ofZero (t .next .proposals)) (p (generator 1 [] []) 0 (rowOf (3 ∷ []))) tt
+
+pub generator-converged-heard-without-raising : ¬ ((g : Generator) (from : ℕ) (q : Sequence) → turned (record { next = generators.notesConverged (generatorOf g) from (viewsOf q); sendings = [] }) ≡ turned (generators.convergedHeard (generatorOf g) from (viewsOf q)))
+unfolding generatorOf notesOf viewsOf rowOf sameOf ones onesIn reachesOf generators.noted generators.notesConverged generators.raises generators.convergedHeard turned
+generator-converged-heard-without-raising p = differ firstTo (p (generator 1 [] []) 0 (rowOf (3 ∷ []))) tt
+
+pub generator-converged-heard-raised-again : ¬ ((g : Generator) (from : ℕ) (q : Sequence) → turned (generators.convergedHeard (generators.raises (generatorOf g) []) from (viewsOf q)) ≡ turned (generators.convergedHeard (generatorOf g) from (viewsOf q)))
+unfolding generatorOf notesOf viewsOf rowOf sameOf ones onesIn reachesOf generators.noted generators.notesConverged generators.raises generators.convergedHeard turned
+generator-converged-heard-raised-again p = differ firstTo (p (generator 1 [] (3 ∷ [])) 0 (rowOf (3 ∷ []))) tt
+
+-- ---- relay
+
+-- a relay that has entered the view or none, with this known view and these pending updates, and nothing else
+abbrev part : Bool → ℕ → ℕ → ℕ → Part
+part entered view known pending =
+    record {
+      head = record { alive = true; entered = entered; active = entered; view = view; known = known; pending = pending; holds = freshPair };
+      generates = false;
+      generator = generator 0 [] [];
+      transfers = false;
+      transfer = record { old = 0; new = 0; sequence = rowOf []; senders = 0; best = freshPair; gathered = 0 };
+    }
+
+abbrev answer : {A : Type 0} → Planned A → ℕ
+answer p = p .answer
+
+abbrev sentTo : {A : Type 0} → Planned A → ℕ
+sentTo p = p .first .receivers
+
+pub relay-join-asked-refused-always : ¬ ((s : ℕ) (p : Part) → planned noRelay (rules.refused rules.not-now) ≡ planned noRelay (joinAnswer s (partOf p)))
+unfolding partOf relayOf joinAnswer relays.joinAsked planned
+relay-join-asked-refused-always p = differ answer (p 1 (part false 0 1 0)) tt
+
+pub relay-join-asked-nothing-sent : ¬ ((s : ℕ) (p : Part) → planned noRelay (rules.quietly (partOf p)) ≡ planned noRelay (joinAnswer s (partOf p)))
+unfolding partOf relayOf joinAnswer relays.joinAsked planned
+relay-join-asked-nothing-sent p = differ sentTo (p 1 (part false 0 1 0)) tt
+
+pub relay-leave-asked-by-anyone : ¬ ((s : ℕ) (p : Part) → planned noRelay (rules.sends (partOf p) (rules.toMembers (partOf p .view) (rules.request (joins (8 + s)) (partOf p .view)) ∷ [])) ≡ planned noRelay (relays.leaveAsked s (partOf p)))
+unfolding partOf relayOf memberOf relays.leaveAsked planned
+relay-leave-asked-by-anyone p = differ answer (p 1 (part true 1 1 0)) tt
+
+pub relay-leave-asked-as-a-join : ¬ ((s : ℕ) (p : Part) → planned noRelay (rules.sends (partOf p) (rules.toMembers (partOf p .view) (rules.request (joins s) (partOf p .view)) ∷ [])) ≡ planned noRelay (relays.leaveAsked s (partOf p)))
+unfolding partOf relayOf memberOf relays.leaveAsked planned
+relay-leave-asked-as-a-join p = differ (λ (x : Planned state.Relay). updates (x .first .body)) (p 0 (part true 1 1 0)) tt
+
+pub relay-timer-rang-refused-always : ¬ ((p : Part) → planned noRelay (rules.refused rules.not-now) ≡ planned noRelay (timerAnswer (partOf p)))
+unfolding partOf relayOf viewsOf rowOf all timerAnswer relays.timerRang relays.atGenerator generators.fresh generators.generatorFor generators.putGenerator generators.withOwn generators.proposes withGenerators planned
+relay-timer-rang-refused-always p = differ answer (p (part true 1 1 2)) tt
+
+pub relay-timer-rang-nothing-pending : ¬ ((p : Part) → planned noRelay (relays.atGenerator (partOf p) (generators.proposes (generators.generatorFor (partOf p .view) (partOf p .generators)) (partOf p .view ∷ []))) ≡ planned noRelay (timerAnswer (partOf p)))
+unfolding partOf relayOf viewsOf rowOf all timerAnswer relays.timerRang relays.atGenerator generators.fresh generators.generatorFor generators.putGenerator generators.withOwn generators.proposes withGenerators planned
+relay-timer-rang-nothing-pending p = differ answer (p (part true 1 1 0)) tt
+
+-- a Get and a Put of try 5 for view 1
+abbrev get : Body
+get = record { kind = 7; first = 1; second = 0; tries = 5; sequence = rowOf []; pair = freshPair; updates = 0 }
+
+abbrev put : Body
+put = record { kind = 8; first = 1; second = 0; tries = 5; sequence = rowOf []; pair = pair; updates = 0 }
+
+pub relay-hears-refused-always : ¬ ((s : ℕ) (p : Part) (from : ℕ) (b : Body) → planned noRelay (rules.refused rules.not-yet) ≡ planned noRelay (hearsAnswer s (partOf p) from (bodyOf b)))
+unfolding partOf relayOf bodyOf bodyIn viewsOf rowOf insideOf fitting fit.hearsInRow hearsAnswer relays.relayHears relays.getHeard planned
+relay-hears-refused-always p = differ answer (p 0 (part true 1 1 0) 8 get) tt
+
+pub relay-hears-and-does-nothing : ¬ ((s : ℕ) (p : Part) (from : ℕ) (b : Body) → planned noRelay (rules.quietly (partOf p)) ≡ planned noRelay (hearsAnswer s (partOf p) from (bodyOf b)))
+unfolding partOf relayOf bodyOf bodyIn viewsOf rowOf insideOf fitting fit.hearsInRow hearsAnswer relays.relayHears relays.getHeard planned
+relay-hears-and-does-nothing p = differ sentTo (p 0 (part true 1 1 0) 8 get) tt
+
+pub relay-hears-and-acknowledges-only : ¬ ((s : ℕ) (p : Part) (from : ℕ) (b : Body) → planned noRelay (rules.sends (partOf p) (rules.toOne from (rules.ack (b .tries)) ∷ [])) ≡ planned noRelay (hearsAnswer s (partOf p) from (bodyOf b)))
+unfolding partOf relayOf bodyOf bodyIn viewsOf rowOf insideOf signOf comparedOf greaterOf greatestOf withHolds fitting fit.hearsInRow hearsAnswer relays.relayHears relays.putHeard planned
+relay-hears-and-acknowledges-only p = differ (λ (x : Planned state.Relay). x .next .holds .value) (p 0 (part true 1 1 0) 8 put) tt
+
+-- ---- desk
+
+-- a desk of view 1 in this phase and of try 5, to which nobody has replied
+abbrev desk : Phase → Desk
+desk phase = record { alive = true; view = 1; phase = phase; tries = 5; holds = freshPair; replied = 0; best = freshPair; agreed = false }
+
+abbrev phased : Planned Desk → ℕ
+phased x = phaseNumber (x .next .phase)
+
+pub desk-read-asked-refused-always : ¬ ((d : Desk) → planned noDesk (rules.refused rules.not-now) ≡ planned noDesk (desks.readAsked d))
+unfolding desks.begins desks.readAsked planned
+desk-read-asked-refused-always p = differ answer (p (desk Idle)) tt
+
+pub desk-read-asked-of-the-same-try : ¬ ((d : Desk) → planned noDesk (rules.sends (cleared d Read1 (d .view) freshPair (d .tries)) (rules.toMembers (d .view) (rules.get (d .tries) (d .view)) ∷ [])) ≡ planned noDesk (desks.readAsked d))
+unfolding desks.begins desks.readAsked planned
+desk-read-asked-of-the-same-try p = differ (λ (x : Planned Desk). x .next .tries) (p (desk Idle)) tt
+
+pub desk-write-asked-without-its-value : ¬ ((d : Desk) (x : ℕ) → planned noDesk (desks.writeAsked d 0) ≡ planned noDesk (desks.writeAsked d x))
+unfolding desks.begins desks.writeAsked planned
+desk-write-asked-without-its-value p = differ (λ (x : Planned Desk). x .next .holds .value) (p (desk Idle) 77) tt
+
+pub desk-write-asked-as-a-read : ¬ ((d : Desk) (x : ℕ) → planned noDesk (desks.readAsked d) ≡ planned noDesk (desks.writeAsked d x))
+unfolding desks.begins desks.readAsked desks.writeAsked planned
+desk-write-asked-as-a-read p = differ phased (p (desk Idle) 77) tt
+
+-- a reply with stamp and value to this try; a desk of another try
+abbrev reply : ℕ → Body
+reply try = record { kind = 10; first = 0; second = 0; tries = try; sequence = rowOf []; pair = pair; updates = 0 }
+
+abbrev ofTry : Desk → ℕ → Desk
+ofTry d try = record { alive = d .alive; view = d .view; phase = d .phase; tries = try; holds = d .holds; replied = d .replied; best = d .best; agreed = d .agreed }
+
+pub desk-hears-nothing : ¬ ((n : ℕ) (d : Desk) (from : ℕ) (b : Body) → planned noDesk (rules.quietly d) ≡ planned noDesk (desks.deskHears n d from (bodyOf b)))
+unfolding bodyOf bodyIn viewsOf rowOf memberOf ones onesIn reachesOf signOf comparedOf greaterOf greatestOf stamps.sameOf desks.notesPair desks.completes desks.counted desks.pairCame desks.deskHears planned
+desk-hears-nothing p = differ phased (p 0 (desk Read1) 0 (reply 5)) tt
+
+-- "Letting a reply from an older try complete a quorum."
+pub desk-hears-any-try : ¬ ((n : ℕ) (d : Desk) (from : ℕ) (b : Body) → planned noDesk (desks.deskHears n (ofTry d (b .tries)) from (bodyOf b)) ≡ planned noDesk (desks.deskHears n d from (bodyOf b)))
+unfolding bodyOf bodyIn viewsOf rowOf memberOf ones onesIn reachesOf signOf comparedOf greaterOf greatestOf stamps.sameOf desks.notesPair desks.completes desks.counted desks.pairCame desks.deskHears planned
+desk-hears-any-try p = differ phased (p 0 (desk Read1) 0 (reply 4)) tt
+
+pub desk-note-reply-not-at-all : ¬ ((desk : Desk) (from : ℕ) (p : Pair) → desk ≡ replyNoted desk from p)
+unfolding signOf comparedOf greaterOf greatestOf desks.notesPair replyNoted
+desk-note-reply-not-at-all p = differ (λ (d : Desk). d .replied) (p (desk Read1) 0 pair) tt
+
+pub desk-note-reply-as-an-acknowledgement : ¬ ((desk : Desk) (from : ℕ) (p : Pair) → desks.notesAck desk from ≡ replyNoted desk from p)
+unfolding signOf comparedOf greaterOf greatestOf desks.notesPair desks.notesAck replyNoted
+desk-note-reply-as-an-acknowledgement p = differ (λ (d : Desk). d .best .value) (p (desk Read1) 0 pair) tt
+
+pub desk-note-reply-of-no-relay : ¬ ((desk : Desk) (from : ℕ) (p : Pair) → desks.notesPair desk from p ≡ replyNoted desk from p)
+unfolding signOf comparedOf greaterOf greatestOf desks.notesPair replyNoted
+desk-note-reply-of-no-relay p = differ (λ (d : Desk). d .best .value) (p (desk Read1) 8 pair) tt

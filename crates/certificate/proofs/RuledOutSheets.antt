@@ -1,0 +1,203 @@
+-- Wrong programs that the promises rule out: sheet and record. Assumes nothing.
+use mathlib.Core.Path.{_≡_}
+use mathlib.Core.Bool.{true, not, _||_}
+use mathlib.Core.List.{List, [], _∷_, _++_}
+use Prim.Native.Nat.{ℕ, _+_, _-_, _*_, _/_, _%_}
+use lib.Dec.{leb, ltb}
+use lib.ListN.{length, getD, take, drop, replicate}
+use denote.Ref.{RefT, now}
+use Rattle.rows.specs.Bytes.{run, zeros}
+use Rattle.rules.specs.Sets.{if_then_else_}
+use Rattle.rules.specs.Sheets.{mark, marked, stepIn, stepsOf, allZerosIn, stepsBytes, sheetBytes, written}
+use Rattle.rules.specs.Runs.{digits, decimal, line, start-word, bad-word}
+use Rattle.sheet.specs.Reading.{checkOf, stepAt, afterOf, takenAt}
+use Rattle.sheet.specs.Writing.{listed, numberOf, writtenOf, leftOf}
+use Rattle.sheet.specs.declared.Sheet.{Sheet}
+use Rattle.sheet.specs.declared.Found.{Found}
+use Rattle.sheet.specs.declared.Found.the-variants.{At, End}
+use Rattle.sheet.specs.declared.reader.Reader.{Reader}
+use Rattle.sheet.specs.declared.reader.Taken.{Taken}
+use Rattle.sheet.specs.declared.Written.the-variants.{Done, NoRoom}
+use Rattle.record.specs.Lines.{laid, past, startOf, stepOf, endOf, badOf}
+use Rattle.certificate.proofs.Differ.{differ, itself, truth, entry}
+
+-- ---- sheet
+
+abbrev isBad : Sheet → ℕ
+isBad s = truth (s .bad)
+
+pub sheet-check-mask-0-accepted : ¬ ((b : List ℕ) → record { bad = ltb (length b) 6 || not (marked b); mask = getD b 5 0; steps = stepsOf b } ≡ checkOf b)
+unfolding allZerosIn checkOf
+sheet-check-mask-0-accepted p = differ isBad (p (mark ++ (0 ∷ []))) tt
+
+pub sheet-check-refused-always : ¬ ((b : List ℕ) → record { bad = true; mask = 0; steps = 0 } ≡ checkOf b)
+unfolding allZerosIn checkOf
+sheet-check-refused-always p = differ isBad (p (mark ++ (1 ∷ []))) tt
+
+abbrev found : Found → ℕ
+found End = 0
+found (At k) = 1 + k .value
+
+-- two steps, WRITE 0 1 and WRITE 0 2
+abbrev steps : List ℕ
+steps = 5 ∷ 0 ∷ 0 ∷ 0 ∷ 0 ∷ 0 ∷ 0 ∷ 1 ∷ 5 ∷ 0 ∷ 0 ∷ 0 ∷ 0 ∷ 0 ∷ 0 ∷ 2 ∷ []
+
+pub sheet-step-at-the-front-always : ¬ ((b : List ℕ) (at : ℕ) → stepAt b 0 ≡ stepAt b at)
+unfolding stepAt
+sheet-step-at-the-front-always p = differ found (p steps 8) tt
+
+pub sheet-step-at-low-byte-first : ¬ ((b : List ℕ) (at : ℕ) → (if leb (at + 8) (length b) then At (record { kind = getD b at 0; id = getD b (at + 1) 0; value = ((getD b (at + 7) 0 * 256 + getD b (at + 6) 0) * 256 + getD b (at + 5) 0) * 256 + getD b (at + 4) 0 }) else End) ≡ stepAt b at)
+unfolding stepAt
+sheet-step-at-low-byte-first p = differ found (p steps 0) tt
+
+pub sheet-step-at-past-the-end : ¬ ((b : List ℕ) (at : ℕ) → At (stepIn (drop at b)) ≡ stepAt b at)
+unfolding stepAt
+sheet-step-at-past-the-end p = differ found (p steps 16) tt
+
+pub sheet-after-stays : ¬ ((b : List ℕ) (at : ℕ) → at ≡ afterOf b at)
+unfolding afterOf
+sheet-after-stays p = differ itself (p steps 0) tt
+
+pub sheet-after-past-the-end : ¬ ((b : List ℕ) (at : ℕ) → at + 8 ≡ afterOf b at)
+unfolding afterOf
+sheet-after-past-the-end p = differ itself (p steps 16) tt
+
+pub sheet-write-answer-done-always : ¬ ((buf : List ℕ) (mask : ℕ) (kinds ids values : List ℕ) → Done (length (sheetBytes mask (listed kinds ids values))) ≡ writtenOf buf mask (listed kinds ids values))
+unfolding stepsBytes sheetBytes written listed writtenOf
+sheet-write-answer-done-always p = differ numberOf (p [] 1 [] [] []) tt
+
+pub sheet-write-answer-no-room-before-bad-sheet : ¬ ((buf : List ℕ) (mask : ℕ) (kinds ids values : List ℕ) → (if ltb (length buf) (length (sheetBytes mask (listed kinds ids values))) then NoRoom else writtenOf buf mask (listed kinds ids values)) ≡ writtenOf buf mask (listed kinds ids values))
+unfolding stepsBytes sheetBytes written listed writtenOf
+sheet-write-answer-no-room-before-bad-sheet p = differ numberOf (p [] 0 [] [] []) tt
+
+pub sheet-write-left-as-it-was : ¬ ((buf : List ℕ) (mask : ℕ) (kinds ids values : List ℕ) → buf ≡ leftOf buf mask (listed kinds ids values))
+unfolding stepsBytes sheetBytes written listed leftOf
+sheet-write-left-as-it-was p = differ (entry 0) (p (replicate 7 9) 1 [] [] []) tt
+
+pub sheet-write-left-cleared-past-the-sheet : ¬ ((buf : List ℕ) (mask : ℕ) (kinds ids values : List ℕ) → laid (zeros (length buf)) 0 (sheetBytes mask (listed kinds ids values)) ≡ leftOf buf mask (listed kinds ids values))
+unfolding run zeros laid stepsBytes sheetBytes written listed leftOf
+sheet-write-left-cleared-past-the-sheet p = differ (entry 6) (p (replicate 7 9) 1 [] [] []) tt
+
+-- a reader over bytes that stand somewhere, and the bytes of two steps
+abbrev reader : RefT (List ℕ) → ℕ → Reader
+reader bytes at = record { sheet = bytes; at = at }
+
+abbrev lent : RefT (List ℕ)
+lent = record { ptr = (0, 0); name = 0; now = steps }
+
+pub sheet-new-before-the-mark : ¬ ((sheet : RefT (List ℕ)) → (reader sheet 0 .sheet ≡ sheet) × (reader sheet 0 .at ≡ 6))
+sheet-new-before-the-mark p = differ itself (p lent .1) tt
+
+pub sheet-new-past-the-first-step : ¬ ((sheet : RefT (List ℕ)) → (reader sheet 14 .sheet ≡ sheet) × (reader sheet 14 .at ≡ 6))
+sheet-new-past-the-first-step p = differ itself (p lent .1) tt
+
+pub sheet-next-the-first-again : ¬ ((r : Reader) → stepAt (now (r .sheet)) 0 ≡ stepAt (now (r .sheet)) (r .at))
+unfolding stepAt
+sheet-next-the-first-again p = differ found (p (reader lent 8)) tt
+
+pub sheet-next-the-one-after : ¬ ((r : Reader) → stepAt (now (r .sheet)) (r .at + 8) ≡ stepAt (now (r .sheet)) (r .at))
+unfolding stepAt
+sheet-next-the-one-after p = differ found (p (reader lent 0)) tt
+
+pub sheet-moved-not-at-all : ¬ ((r : Reader) → (r .sheet ≡ r .sheet) × (r .at ≡ afterOf (now (r .sheet)) (r .at)))
+unfolding afterOf
+sheet-moved-not-at-all p = differ itself (p (reader lent 0) .1) tt
+
+pub sheet-moved-past-the-end : ¬ ((r : Reader) → (reader (r .sheet) (r .at + 8) .sheet ≡ r .sheet) × (reader (r .sheet) (r .at + 8) .at ≡ afterOf (now (r .sheet)) (r .at)))
+unfolding afterOf
+sheet-moved-past-the-end p = differ itself (p (reader lent 16) .1) tt
+
+pub sheet-read-at-the-front-always : ¬ ((sheet : List ℕ) (at : ℕ) → takenAt sheet 0 ≡ takenAt sheet at)
+unfolding stepAt afterOf takenAt
+sheet-read-at-the-front-always p = differ (λ (t : Taken). found (t .found)) (p steps 8) tt
+
+pub sheet-read-at-without-moving : ¬ ((sheet : List ℕ) (at : ℕ) → record { found = stepAt sheet at; at = at } ≡ takenAt sheet at)
+unfolding stepAt afterOf takenAt
+sheet-read-at-without-moving p = differ (λ (t : Taken). t .at) (p steps 0) tt
+
+-- ---- record; a buffer of 20 bytes
+
+abbrev page : List ℕ
+page = replicate 20 0
+
+pub record-put-position-stays : ¬ ((at x : ℕ) → at ≡ past at (x ∷ []))
+record-put-position-stays p = differ itself (p 0 7) tt
+
+pub record-put-bytes-one-too-far : ¬ ((out : List ℕ) (at x : ℕ) → laid out (at + 1) (x ∷ []) ≡ laid out at (x ∷ []))
+unfolding laid
+record-put-bytes-one-too-far p = differ (entry 0) (p page 0 7) tt
+
+pub record-put-number-position-of-one-digit : ¬ ((at n : ℕ) → at + 1 ≡ past at (decimal n))
+unfolding digits
+record-put-number-position-of-one-digit p = differ itself (p 0 12) tt
+
+pub record-put-number-bytes-last-digit-first : ¬ ((out : List ℕ) (at n : ℕ) → laid out at ((48 + n % 10) ∷ (if ltb n 10 then [] else decimal (n / 10))) ≡ laid out at (decimal n))
+unfolding laid digits
+record-put-number-bytes-last-digit-first p = differ (entry 0) (p page 0 12) tt
+
+pub record-put-number-bytes-leading-zero : ¬ ((out : List ℕ) (at n : ℕ) → laid out at (48 ∷ decimal n) ≡ laid out at (decimal n))
+unfolding laid digits
+record-put-number-bytes-leading-zero p = differ (entry 0) (p page 0 7) tt
+
+pub record-put-line-position-of-one-number : ¬ ((at : ℕ) (numbers : List ℕ) → past at (line (getD numbers 0 0 ∷ [])) ≡ past at (line numbers))
+unfolding digits line
+record-put-line-position-of-one-number p = differ itself (p 0 (7 ∷ 8 ∷ [])) tt
+
+pub record-put-line-bytes-without-newline : ¬ ((out : List ℕ) (at : ℕ) (numbers : List ℕ) → laid out at (take (length (line numbers) - 1) (line numbers)) ≡ laid out at (line numbers))
+unfolding laid digits line
+record-put-line-bytes-without-newline p = differ (entry 1) (p page 0 (7 ∷ [])) tt
+
+pub record-put-line-bytes-first-number-only : ¬ ((out : List ℕ) (at : ℕ) (numbers : List ℕ) → laid out at (line (getD numbers 0 0 ∷ [])) ≡ laid out at (line numbers))
+unfolding laid digits line
+record-put-line-bytes-first-number-only p = differ (entry 2) (p page 0 (7 ∷ 8 ∷ [])) tt
+
+pub record-put-word-position-stays : ¬ ((at : ℕ) (word : List ℕ) → at ≡ past at word)
+record-put-word-position-stays p = differ itself (p 0 (97 ∷ [])) tt
+
+pub record-put-word-bytes-with-newline : ¬ ((out : List ℕ) (at : ℕ) (word : List ℕ) → laid out at (word ++ (10 ∷ [])) ≡ laid out at word)
+unfolding laid
+record-put-word-bytes-with-newline p = differ (entry 1) (p page 0 (97 ∷ [])) tt
+
+pub record-put-start-bytes-without-the-mask : ¬ ((out : List ℕ) (mask : ℕ) → laid out 0 (start-word ++ line []) ≡ laid out 0 (startOf mask))
+unfolding laid digits line
+record-put-start-bytes-without-the-mask p = differ (entry 6) (p page 7) tt
+
+pub record-put-start-position-of-one-digit : ¬ ((mask : ℕ) → 8 ≡ past 0 (startOf mask))
+unfolding digits line
+record-put-start-position-of-one-digit p = differ itself (p 255) tt
+
+pub record-put-step-position-of-single-digits : ¬ ((at number answer event who count desk last : ℕ) → past at (stepOf 0 0 0 0 0 0 0) ≡ past at (stepOf number answer event who count desk last))
+unfolding digits line
+record-put-step-position-of-single-digits p = differ itself (p 0 10 0 0 0 0 0 0) tt
+
+pub record-put-step-bytes-numbered-from-0 : ¬ ((out : List ℕ) (at number answer event who count desk last : ℕ) → laid out at (stepOf (number - 1) answer event who count desk last) ≡ laid out at (stepOf number answer event who count desk last))
+unfolding laid digits line
+record-put-step-bytes-numbered-from-0 p = differ (entry 0) (p page 0 1 0 0 0 0 0 0) tt
+
+pub record-put-step-bytes-event-for-answer : ¬ ((out : List ℕ) (at number answer event who count desk last : ℕ) → laid out at (stepOf number event answer who count desk last) ≡ laid out at (stepOf number answer event who count desk last))
+unfolding laid digits line
+record-put-step-bytes-event-for-answer p = differ (entry 2) (p page 0 5 0 3 0 1 0 77) tt
+
+pub record-put-end-position-of-single-digits : ¬ ((at sent delivered dropped waiting : ℕ) → past at (endOf 0 0 0 0) ≡ past at (endOf sent delivered dropped waiting))
+unfolding digits line
+record-put-end-position-of-single-digits p = differ itself (p 0 10 10 0 0) tt
+
+pub record-put-end-bytes-invented : ¬ ((out : List ℕ) (at sent delivered dropped waiting : ℕ) → laid out at (endOf 0 0 0 0) ≡ laid out at (endOf sent delivered dropped waiting))
+unfolding laid digits line
+record-put-end-bytes-invented p = differ (entry 4) (p page 0 6 6 0 0) tt
+
+pub record-put-end-bytes-dropped-for-delivered : ¬ ((out : List ℕ) (at sent delivered dropped waiting : ℕ) → laid out at (endOf sent dropped delivered waiting) ≡ laid out at (endOf sent delivered dropped waiting))
+unfolding laid digits line
+record-put-end-bytes-dropped-for-delivered p = differ (entry 6) (p page 0 6 6 0 0) tt
+
+pub record-put-bad-position-before-the-newline : ¬ (5 ≡ past 0 badOf)
+unfolding digits line
+record-put-bad-position-before-the-newline p = differ itself p tt
+
+pub record-put-bad-bytes-of-another-number : ¬ ((out : List ℕ) → laid out 0 (bad-word ++ line (8 ∷ [])) ≡ laid out 0 badOf)
+unfolding laid digits line
+record-put-bad-bytes-of-another-number p = differ (entry 4) (p page) tt
+
+pub record-put-bad-bytes-none : ¬ ((out : List ℕ) → out ≡ laid out 0 badOf)
+unfolding laid digits line
+record-put-bad-bytes-none p = differ (entry 0) (p page) tt

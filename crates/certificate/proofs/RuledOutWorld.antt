@@ -1,0 +1,160 @@
+-- Wrong programs that the promises rule out: good, world and engine. Assumes nothing.
+use mathlib.Core.Path.{_≡_, refl, sym, ap, _∙_}
+use mathlib.Core.Bool.{Bool, false}
+use mathlib.Core.List.{List, [], _∷_, _++_}
+use Prim.Native.Nat.{ℕ}
+use lib.Dec.{eqb}
+use lib.ListN.{length, getD, drop, replicate}
+use Rattle.rows.specs.Bytes.{splice, placed, bytesOf, cat}
+use Rattle.rules.specs.Sets.{if_then_else_}
+use Rattle.rules.specs.State.{World, noRelay, start}
+use Rattle.rules.specs.Sending.{waitingIn}
+use Rattle.rules.specs.declared.Step.{Step}
+use Rattle.rules.specs.Steps.{after, stepped}
+use Rattle.rules.specs.Image.{image, goodBytes}
+use Rattle.rules.specs.Lent.{Lent, lentStart, lentStep}
+use Rattle.rules.specs.Sheets.{mark, stepsOf, stepsIn, allZerosIn, sheetIn}
+use Rattle.rules.specs.Runs.{outcomes, fields, digits, line, stepLines, lastWorld, rehearsed}
+use Rattle.rules.specs.Examples.{recorded}
+use Rattle.rules.proofs.Kept.{step-keeps}
+use Rattle.rules.proofs.ImageWidths.{length-image}
+use Rattle.rules.proofs.ImageWorld.{image-injective}
+use Rattle.record.specs.Lines.{laid, startOf, endOf, badOf}
+use Rattle.world.specs.Answer.{reportOf, lentOf}
+use Rattle.world.specs.Playing.{told, rehearsal, worldLeft, recordLeft}
+use Rattle.world.specs.declared.Answer.{Answer}
+use Rattle.world.specs.declared.Report.the-variants.{Nothing, WriteDone}
+use Rattle.world.specs.declared.run.Rehearsed.{Rehearsed}
+use Rattle.engine.specs.Told.{goodNumber, toldBytes, toldOf}
+use Rattle.certificate.proofs.Differ.{differ, itself, truth, entry}
+use Rattle.certificate.proofs.Worlds.{one, two, one-formed, two-formed, one-good, write, step-of, start-of, soiled, soiled-long, soiled-bad}
+
+-- ---- good
+
+pub good-is-good-refused-always : ¬ ((w : List ℕ) → false ≡ goodBytes w)
+good-is-good-refused-always p = differ truth (p one ∙ one-good) tt
+
+pub good-is-good-by-length-only : ¬ ((w : List ℕ) → eqb (length w) 65536 ≡ goodBytes w)
+good-is-good-by-length-only p = differ truth (sym (ap (λ n. eqb n 65536) soiled-long) ∙ p soiled ∙ soiled-bad) tt
+
+-- ---- world
+
+abbrev replies : ℕ → Answer
+replies n = record { number = n; report = Nothing }
+
+abbrev number : Lent → ℕ
+number l = l .answer
+
+-- a step that sends, and a start over another one, change the buffer
+abbrev waits : World → ℕ
+waits w = waitingIn (w .places)
+
+pub write-moves : ¬ (one ≡ image (after (start 1) (stepped (start 1) write)))
+unfolding recorded
+write-moves e = differ waits (image-injective (start 1) (after (start 1) (stepped (start 1) write)) one-formed (step-keeps (start 1) write one-formed) e) tt
+
+starts-differ : ¬ (two ≡ one)
+unfolding recorded
+starts-differ e = differ (λ (w : World). getD (w .relays) 0 noRelay .view) (image-injective (start 2) (start 1) two-formed one-formed e) tt
+
+buffer-of : {l m : Lent} → l ≡ m → l .buffer ≡ m .buffer
+buffer-of e = ap (λ (l : Lent). l .buffer) e
+
+pub world-step-refused-always : ¬ ((w : List ℕ) (k : Step) → lentOf (replies 1) w ≡ lentStep w k)
+unfolding recorded lentOf
+world-step-refused-always p = differ number (p one write ∙ step-of (start 1) one-formed write) tt
+
+pub world-step-nothing-changed : ¬ ((w : List ℕ) (k : Step) → lentOf (replies 0) w ≡ lentStep w k)
+unfolding recorded lentOf
+world-step-nothing-changed p = write-moves (buffer-of (p one write ∙ step-of (start 1) one-formed write))
+
+pub world-start-in-any-buffer : ¬ ((w : List ℕ) (mask : ℕ) → lentOf (replies 0) (image (start mask)) ≡ lentStart w mask)
+unfolding lentOf lentStart
+world-start-in-any-buffer p = differ number (p [] 1) tt
+
+pub world-start-nothing-changed : ¬ ((w : List ℕ) (mask : ℕ) → lentOf (replies 0) w ≡ lentStart w mask)
+unfolding lentOf
+world-start-nothing-changed p = starts-differ (buffer-of (p two 1 ∙ start-of two (length-image (start 2))))
+
+-- a write of desk 2 has ended
+abbrev wrote : Answer
+wrote = record { number = 0; report = WriteDone 2 (record { stamp = record { count = 1; desk = 2 }; value = 77 }) }
+
+pub world-columns-of-zeros : ¬ ((a : Answer) → 0 ∷ 0 ∷ 0 ∷ 0 ∷ 0 ∷ [] ≡ fields (reportOf (a .report) .event) (reportOf (a .report) .who))
+unfolding reportOf
+world-columns-of-zeros p = differ (entry 0) (p wrote) tt
+
+pub world-columns-of-desk-0-always : ¬ ((a : Answer) → fields (reportOf (a .report) .event) 0 ≡ fields (reportOf (a .report) .event) (reportOf (a .report) .who))
+unfolding reportOf
+world-columns-of-desk-0-always p = differ (entry 1) (p wrote) tt
+
+-- a sheet with mask 1 and no step; a page for a record
+abbrev pub blank : List ℕ
+blank = mark ++ (1 ∷ [])
+
+abbrev page : List ℕ
+page = replicate 20 0
+
+pub world-rehearse-answer-done-always : ¬ ((sheet world out : List ℕ) → record { answer = 0; length = length (rehearsed sheet) } ≡ rehearsal sheet world out)
+unfolding rehearsal
+world-rehearse-answer-done-always p = differ (λ (r : Rehearsed). r .answer) (p blank [] page) tt
+
+-- with a world of the right length
+left-there : (sheet world : List ℕ) → length world ≡ 65536 → sheetIn sheet ≡ sheetIn blank → worldLeft sheet world ≡ one
+unfolding worldLeft sheetIn stepsIn allZerosIn lastWorld
+left-there sheet world e s = rw (e, s)
+
+printed-there : (sheet out : List ℕ) → recordLeft sheet one out ≡ laid out 0 (rehearsed sheet)
+unfolding recordLeft
+printed-there sheet out = rw (length-image (start 1))
+
+pub world-rehearse-last-as-it-was : ¬ ((sheet world : List ℕ) → world ≡ worldLeft sheet world)
+world-rehearse-last-as-it-was p = starts-differ (p blank two ∙ left-there blank two (length-image (start 2)) refl)
+
+pub world-rehearse-printed-nothing : ¬ ((sheet world out : List ℕ) → out ≡ recordLeft sheet world out)
+unfolding laid sheetIn digits line rehearsed
+world-rehearse-printed-nothing p = differ (entry 0) (p [] one page ∙ printed-there [] page) tt
+
+pub world-rehearse-printed-bad-always : ¬ ((sheet world out : List ℕ) → laid out 0 badOf ≡ recordLeft sheet world out)
+unfolding laid sheetIn stepsIn allZerosIn recorded rehearsed
+world-rehearse-printed-bad-always p = differ (entry 0) (p blank one page ∙ printed-there blank page) tt
+
+-- the record of these steps, with these totals in its last line
+abbrev pub withTotals : ℕ → List Step → ℕ → ℕ → ℕ → ℕ → List ℕ
+withTotals mask ks sent delivered dropped waiting = startOf mask ++ (stepLines 1 (outcomes (start mask) ks) ++ endOf sent delivered dropped waiting)
+
+-- the sheet of one step, WRITE 0 77; its record with the totals of a run that did nothing
+abbrev pub written : List ℕ
+written = mark ++ (1 ∷ 5 ∷ 0 ∷ 0 ∷ 0 ∷ 0 ∷ 0 ∷ 0 ∷ 77 ∷ [])
+
+pub world-rehearse-printed-invented-totals : ¬ ((sheet world out : List ℕ) → laid out 0 (withTotals (getD sheet 5 0) (stepsIn (stepsOf sheet) (drop 6 sheet)) 0 0 0 0) ≡ recordLeft sheet world out)
+unfolding laid sheetIn stepsIn allZerosIn recorded rehearsed
+world-rehearse-printed-invented-totals p = differ (entry 26) (p written one (replicate 40 0) ∙ printed-there written (replicate 40 0)) tt
+
+-- ---- engine
+
+pub engine-world-good-never : ¬ ((w : List ℕ) → 0 ≡ goodNumber w)
+engine-world-good-never p = differ itself (p one ∙ ap (λ (b : Bool). if b then 1 else 0) one-good) tt
+
+pub engine-world-good-by-length-only : ¬ ((w : List ℕ) → (if eqb (length w) 65536 then 1 else 0) ≡ goodNumber w)
+engine-world-good-by-length-only p =
+    differ itself (sym (ap (λ (n : ℕ). if eqb n 65536 then 1 else 0) soiled-long) ∙ p soiled ∙ ap (λ (b : Bool). if b then 1 else 0) soiled-bad) tt
+
+pub engine-world-start-answer-done-always : ¬ ((w : List ℕ) (mask : ℕ) → 0 ≡ lentStart w mask .answer)
+unfolding lentStart
+engine-world-start-answer-done-always p = differ itself (p [] 1) tt
+
+pub engine-world-start-buffer-as-it-was : ¬ ((w : List ℕ) (mask : ℕ) → w ≡ lentStart w mask .buffer)
+engine-world-start-buffer-as-it-was p = starts-differ (p two 1 ∙ buffer-of (start-of two (length-image (start 2))))
+
+pub engine-world-step-answer-refused-always : ¬ ((w : List ℕ) (kind id value : ℕ) → 1 ≡ lentStep w (record { kind = kind; id = id; value = value }) .answer)
+unfolding recorded
+engine-world-step-answer-refused-always p = differ itself (p one 5 0 77 ∙ ap number (step-of (start 1) one-formed write)) tt
+
+pub engine-world-step-buffer-as-it-was : ¬ ((w : List ℕ) (kind id value : ℕ) → w ≡ lentStep w (record { kind = kind; id = id; value = value }) .buffer)
+unfolding recorded
+engine-world-step-buffer-as-it-was p = write-moves (p one 5 0 77 ∙ buffer-of (step-of (start 1) one-formed write))
+
+pub engine-world-step-columns-as-they-were : ¬ ((w told : List ℕ) (kind id value : ℕ) → told ≡ placed told 0 (toldBytes (toldOf (lentStep w (record { kind = kind; id = id; value = value })))))
+unfolding goodBytes lentStep toldOf cat bytesOf toldBytes placed splice
+engine-world-step-columns-as-they-were p = differ (entry 0) (p [] (replicate 9 7) 5 0 77) tt

@@ -1,0 +1,1 @@
+// What an inspector asks of every public function: proofs only
