@@ -127,6 +127,14 @@ withTotals mask ks sent delivered dropped waiting = startOf mask ++ (stepLines 1
 abbrev pub written : List ℕ
 written = mark ++ (1 ∷ 5 ∷ 0 ∷ 0 ∷ 0 ∷ 0 ∷ 0 ∷ 0 ∷ 77 ∷ [])
 
+-- lines numbered from 0
+abbrev numbered : ℕ → List Step → List ℕ
+numbered mask ks = startOf mask ++ (stepLines 0 (outcomes (start mask) ks) ++ endOf 1 0 0 1)
+
+pub world-rehearse-printed-numbers-from-0 : ¬ ((sheet world out : List ℕ) → laid out 0 (numbered (getD sheet 5 0) (stepsIn (stepsOf sheet) (drop 6 sheet))) ≡ recordLeft sheet world out)
+unfolding laid sheetIn stepsIn allZerosIn recorded rehearsed
+world-rehearse-printed-numbers-from-0 p = differ (entry 8) (p written one (replicate 40 0) ∙ printed-there written (replicate 40 0)) tt
+
 pub world-rehearse-printed-invented-totals : ¬ ((sheet world out : List ℕ) → laid out 0 (withTotals (getD sheet 5 0) (stepsIn (stepsOf sheet) (drop 6 sheet)) 0 0 0 0) ≡ recordLeft sheet world out)
 unfolding laid sheetIn stepsIn allZerosIn recorded rehearsed
 world-rehearse-printed-invented-totals p = differ (entry 26) (p written one (replicate 40 0) ∙ printed-there written (replicate 40 0)) tt
