@@ -25,95 +25,16 @@ abbrev put-number-below : ℕ → In 1 put-number-kinds.ps
 put-number-below t =
     and 1 put-number-kinds.ps (falls 1 put-number-kinds.ps _<_ μ-put-number t) put-number.Pre
 
-put-number-add-put : (t : ℕ) → put-number-lts.Need-add-put (
-  put-reads.Asked,
-  put-reads.Learnt,
-  put-number-below t,
-  put-number.Post,
-) (put-number-at t) put-number.Post
-put-number-add-put t c = search needs
+abbrev claims : ℕ → put-number-lts.Claims
+claims t = (put-reads.Asked, put-reads.Learnt, put-number-below t, put-number.Post)
 
-put-number-cast-put : (t : ℕ) → put-number-lts.Need-cast-put (
-  put-reads.Asked,
-  put-reads.Learnt,
-  put-number-below t,
-  put-number.Post,
-) (put-number-at t) put-number.Post
-put-number-cast-put t c = search needs
-
-put-number-put-requires : (t : ℕ) → put-number-lts.Need-put-requires (
-  put-reads.Asked,
-  put-reads.Learnt,
-  put-number-below t,
-  put-number.Post,
-) (put-number-at t) put-number.Post
-put-number-put-requires t c κs = search needs
-
-put-number-same-length : (t : ℕ) → put-number-lts.Need-same-length (
-  put-reads.Asked,
-  put-reads.Learnt,
-  put-number-below t,
-  put-number.Post,
-) (put-number-at t) put-number.Post
-put-number-same-length t c = search needs
-
-put-number-returns : (t : ℕ) → put-number-lts.Need-returns (
-  put-reads.Asked,
-  put-reads.Learnt,
-  put-number-below t,
-  put-number.Post,
-) (put-number-at t) put-number.Post
-put-number-returns t c =
+returns : (t : ℕ) → put-number-lts.Need-returns (claims t) (put-number-at t) put-number.Post
+returns t c =
     let wrote = c .before .before in
     printed-as _ (sym (decimal-one (wrote .before .before .before .before .args .n) (omega arith))) (printed-first _ (wrote .put .ensures))
 
-put-number-put-number-requires : (t : ℕ) → put-number-lts.Need-put-number-requires (
-  put-reads.Asked,
-  put-reads.Learnt,
-  put-number-below t,
-  put-number.Post,
-) (put-number-at t) put-number.Post
-put-number-put-number-requires t c κs = (omega (arith, c .before .before .before .pre .0), tt)
-
-put-number-add-put-2 : (t : ℕ) → put-number-lts.Need-add-put-2 (
-  put-reads.Asked,
-  put-reads.Learnt,
-  put-number-below t,
-  put-number.Post,
-) (put-number-at t) put-number.Post
-put-number-add-put-2 t c = search needs
-
-put-number-cast-put-2 : (t : ℕ) → put-number-lts.Need-cast-put-2 (
-  put-reads.Asked,
-  put-reads.Learnt,
-  put-number-below t,
-  put-number.Post,
-) (put-number-at t) put-number.Post
-put-number-cast-put-2 t c = search needs
-
-put-number-put-requires-2 : (t : ℕ) → put-number-lts.Need-put-requires-2 (
-  put-reads.Asked,
-  put-reads.Learnt,
-  put-number-below t,
-  put-number.Post,
-) (put-number-at t) put-number.Post
-put-number-put-requires-2 t c κs = search needs
-
-put-number-same-length-2 : (t : ℕ) → put-number-lts.Need-same-length-2 (
-  put-reads.Asked,
-  put-reads.Learnt,
-  put-number-below t,
-  put-number.Post,
-) (put-number-at t) put-number.Post
-put-number-same-length-2 t c = search needs
-
-put-number-returns-2 : (t : ℕ) → put-number-lts.Need-returns-2 (
-  put-reads.Asked,
-  put-reads.Learnt,
-  put-number-below t,
-  put-number.Post,
-) (put-number-at t) put-number.Post
-put-number-returns-2 t c =
+returns-2 : (t : ℕ) → put-number-lts.Need-returns-2 (claims t) (put-number-at t) put-number.Post
+returns-2 t c =
     let last = c .before .before in
     let front = last .before .before .before .before in
     let n = front .before .before .before .before .args .n in
@@ -121,22 +42,8 @@ put-number-returns-2 t c =
     printed-as _ (sym (decimal-more n (omega arith) (omega arith))) whole
 
 pub +put-number-spec : {M : Type 1} → statement M
-+put-number-spec = close μ-put-number λ t. put-number-lts.spec (
-  put-reads.Asked,
-  put-reads.Learnt,
-  put-number-below t,
-  put-number.Post,
-)
-    (put-number-at t)
-    put-number.Post
-    (put-number-add-put t)
-    (put-number-cast-put t)
-    (put-number-put-requires t)
-    (put-number-same-length t)
-    (put-number-returns t)
-    (put-number-put-number-requires t)
-    (put-number-add-put-2 t)
-    (put-number-cast-put-2 t)
-    (put-number-put-requires-2 t)
-    (put-number-same-length-2 t)
-    (put-number-returns-2 t)
++put-number-spec =
+    close μ-put-number λ t. put-number-lts.spec (claims t) (put-number-at t) put-number.Post
+    (λ c. search needs) (λ c. search needs) (λ c κs. search needs) (λ c. search needs) (returns t)
+    (λ c κs. (omega (arith, c .before .before .before .pre .0), tt))
+    (λ c. search needs) (λ c. search needs) (λ c κs. search needs) (λ c. search needs) (returns-2 t)
