@@ -9,7 +9,7 @@ use borrow.Author.Tests.{ltb-true, eqb-true, lt-ltb}
 use Rattle.views.proofs.Truth.{cases}
 use Rattle.rules.specs.Sets.{_&&_, member, above, none, all}
 use Rattle.rules.specs.Messages.{Sending, Event, Refusal, Answer, refused, does}
-use Rattle.rules.specs.State.{Generator, Relay, withGenerators}
+use Rattle.rules.specs.State.{Generator, Transfer, Relay, withGenerators}
 use Rattle.rules.specs.Generators.{generatorFor, putGenerator, Turn, proposes, proposalHeard, convergedHeard}
 use Rattle.rules.specs.Relays.{atGenerator}
 use Rattle.rules.specs.WellFormed.{isPair, implies, sameBool, distinct, goodGenerator, goodTransfer, otherView, otherMove, goodGenerators, goodTransfers, goodRelay}
@@ -30,6 +30,23 @@ pub record Rel (s : ℕ) (r : Relay) : Type 0 where
   pub different : distinct otherView (r .generators) ≡ true
   pub transfers : all (goodTransfer s) (r .transfers) ≡ true
   pub apart : distinct otherMove (r .transfers) ≡ true
+
+-- the same relay with other tables
+pub rel-tables : {s : ℕ} {r : Relay} → Rel s r → (gs : List Generator) (ts : List Transfer)
+    → all (goodGenerator s) gs ≡ true → distinct otherView gs ≡ true → all (goodTransfer s) ts ≡ true → distinct otherMove ts ≡ true
+    → Rel s (record { alive = r .alive; view = r .view; entered = r .entered; active = r .active; known = r .known; pending = r .pending; holds = r .holds; generators = gs; transfers = ts })
+rel-tables h gs ts g d t a = record {
+  view = h .view;
+  known = h .known;
+  pending = h .pending;
+  holds = h .holds;
+  active = h .active;
+  entered = h .entered;
+  generators = g;
+  different = d;
+  transfers = t;
+  apart = a;
+}
 
 pub rel-facts : (s : ℕ) (r : Relay) → goodRelay s r ≡ true → Rel s r
 unfolding goodRelay goodGenerators goodTransfers
@@ -115,18 +132,9 @@ pub at-generator : (s v : ℕ) (r : Relay) (t : Turn) → Rel s r → GoodTurn s
 unfolding atGenerator withGenerators
 at-generator s v r t h k =
     does-well s _ _ _
-    (record {
-      view = h .view;
-      known = h .known;
-      pending = h .pending;
-      holds = h .holds;
-      active = h .active;
-      entered = h .entered;
-      generators = all-put (goodGenerator s) (t .next) (gen-tests s (t .next) (k .next)) (r .generators) (h .generators);
-      different = distinct-put (t .next) (r .generators) (h .different);
-      transfers = h .transfers;
-      apart = h .apart;
-    })
+    (rel-tables h (putGenerator (t .next) (r .generators)) (r .transfers)
+    (all-put (goodGenerator s) (t .next) (gen-tests s (t .next) (k .next)) (r .generators) (h .generators)) (distinct-put (t .next) (r .generators) (h .different))
+    (h .transfers) (h .apart))
     (k .sendings)
 
 -- ---- Proposal, Converged

@@ -21,7 +21,7 @@ use Rattle.rules.specs.WellFormed.{isPair, distinct, goodMove, goodPlan,
 use Rattle.rules.specs.Lent.{kept}
 use Rattle.rules.proofs.Hold.{hold-facts, hold-tests, all-none, all-parts, all-more, all-those, distinct-parts, distinct-more, distinct-those}
 use Rattle.rules.proofs.Sends.{SendWell, SendsWell, sends-none, sends-one, sends-append, one-more}
-use Rattle.rules.proofs.Relays.{Rel, GoodAnswer, refuses-well, does-well, propose-kept}
+use Rattle.rules.proofs.Relays.{Rel, rel-tables, GoodAnswer, refuses-well, does-well, propose-kept}
 
 pub record Tra (s : ℕ) (t : Transfer) : Type 0 where
   pub owner : member (t .new) s ≡ true
@@ -152,18 +152,8 @@ tested-good s r h t k =
   where
     kept : Rel s (withTransfers r (putTransfer t (r .transfers)))
     kept = unfold withTransfers in
-        (record {
-          view = h .view;
-          known = h .known;
-          pending = h .pending;
-          holds = h .holds;
-          active = h .active;
-          entered = h .entered;
-          generators = h .generators;
-          different = h .different;
-          transfers = all-put (goodTransfer s) t (tra-tests s t k) (r .transfers) (h .transfers);
-          apart = distinct-put t (r .transfers) (h .apart);
-        })
+        rel-tables h (r .generators) (putTransfer t (r .transfers)) (h .generators) (h .different)
+        (all-put (goodTransfer s) t (tra-tests s t k) (r .transfers) (h .transfers)) (distinct-put t (r .transfers) (h .apart))
 
 -- ---- State
 

@@ -31,7 +31,7 @@ use Rattle.safety.proofs.Notes.{Notes, notes-none, note-greater, note-o
 use Rattle.safety.proofs.Ties.{Plan, TransferTied, RelayTied, SendingBacked}
 use Rattle.safety.proofs.Grown.{plan-since, transfers-since, generators-more, sendings-since, sent-alike}
 use Rattle.safety.proofs.Turns.{proposes-done}
-use Rattle.safety.proofs.RelaySteps.{RelayDone, after-entries, at-generator, nothing-done}
+use Rattle.safety.proofs.RelaySteps.{RelayDone, tied-as, after-entries, at-generator, nothing-done}
 
 -- ---- transfers
 
@@ -148,16 +148,7 @@ module _ {start : ℕ} {l : Log} {k : ℕ} (S : Sound start l) where
       (λ e. nothing-done S _ kept)
     where
       kept : RelayTied start l k (withTransfers r (putTransfer t (r .transfers)))
-      kept = record {
-        facts = h .facts;
-        outside = h .outside;
-        inside = h .inside;
-        small = h .small;
-        view-small = h .view-small;
-        updates = h .updates;
-        generators = h .generators;
-        transfers = put-tied t d (h .transfers);
-      }
+      kept = tied-as h (r .alive) (r .known) (r .pending) (putTransfer t (r .transfers)) (h .updates) (put-tied t d (h .transfers))
 
   -- "If its view is inside w and it is a member of w, the transfer keeps q unless it has one already; then the entry test."
   takes-done : (r : Relay) (o w : ℕ) (q : List ℕ) → RelayTied start l k r → Plan l o w q → RelayDone start l k (takesInstall k r o w q)

@@ -1,6 +1,6 @@
 -- What a rule at one relay must do to the log, and the rules that only send or use a generator. Assumes nothing.
 use mathlib.Core.Path.{_≡_, sym, _∙_}
-use mathlib.Core.Bool.{false, not, _&&_, _||_, and-eq-true-iff}
+use mathlib.Core.Bool.{Bool, false, not, _&&_, _||_, and-eq-true-iff}
 use mathlib.Core.List.{List, [], _∷_}
 use Prim.Native.Nat.{ℕ, _+_, _<_}
 use native.Mathlib.Omega.{arith}
@@ -15,14 +15,14 @@ use Rattle.views.proofs.Among.{has-first}
 use Rattle.views.proofs.Nested.{above-none, above-more}
 use Rattle.rules.specs.Sets.{joins, leaves, joined, member, within, inside}
 use Rattle.rules.specs.Messages.{request, view, Sending, toMembers, toOne, Event, nothing, opened, readDone, writeDone, Answer, refused, does, quietly, sends}
-use Rattle.rules.specs.State.{Generator, Relay, withKnown, withPending, withGenerators, crashedRelay}
+use Rattle.rules.specs.State.{Generator, Transfer, Relay, withKnown, withPending, withGenerators, crashedRelay}
 use Rattle.rules.specs.Generators.{generatorFor, putGenerator, Turn, proposes}
 use Rattle.rules.specs.Relays.{atGenerator, joinAsked, leaveAsked, timerRang, requestHeard, learns}
 use Rattle.safety.proofs.Lists.{All, all-none}
 use Rattle.safety.proofs.Bridge.{Kept}
 use Rattle.safety.proofs.Log.{Log, Active, by-timer, Sound}
 use Rattle.safety.proofs.Growth.{Since, stay, since-join, since-map, ByRelay, turning-by}
-use Rattle.safety.proofs.Ties.{GeneratorTied, RelayTied, SendingBacked}
+use Rattle.safety.proofs.Ties.{GeneratorTied, TransferTied, RelayTied, SendingBacked}
 use Rattle.safety.proofs.Grown.{sent-alike, transfers-since, facts-turning, generator-turning}
 use Rattle.safety.proofs.Turns.{TurnDone, proposes-done}
 
@@ -60,44 +60,30 @@ after-entries start s (does r ss e) h = record {
 -- ---- parts of a relay that the log does not speak of
 
 module _ {start : ℕ} {l : Log} {k : ℕ} {r : Relay} (h : RelayTied start l k r) where
-  pub tied-known : (v : ℕ) → RelayTied start l k (withKnown r v)
-  unfolding withKnown
-  tied-known v = record {
+  pub tied-as : (alive : Bool) (known pending : ℕ) (ts : List Transfer) → pending < 65536 → All (TransferTied l) ts
+      → RelayTied start l k (record { alive = alive; view = r .view; entered = r .entered; active = r .active; known = known; pending = pending; holds = r .holds; generators = r .generators; transfers = ts })
+  tied-as alive known pending ts p a = record {
     facts = h .facts;
     outside = h .outside;
     inside = h .inside;
     small = h .small;
     view-small = h .view-small;
-    updates = h .updates;
+    updates = p;
     generators = h .generators;
-    transfers = h .transfers;
+    transfers = a;
   }
+
+  pub tied-known : (v : ℕ) → RelayTied start l k (withKnown r v)
+  unfolding withKnown
+  tied-known v = tied-as (r .alive) v (r .pending) (r .transfers) (h .updates) (h .transfers)
 
   pub tied-pending : (u : ℕ) → u < 65536 → RelayTied start l k (withPending r u)
   unfolding withPending
-  tied-pending u s = record {
-    facts = h .facts;
-    outside = h .outside;
-    inside = h .inside;
-    small = h .small;
-    view-small = h .view-small;
-    updates = s;
-    generators = h .generators;
-    transfers = h .transfers;
-  }
+  tied-pending u s = tied-as (r .alive) (r .known) u (r .transfers) s (h .transfers)
 
   pub tied-crashed : RelayTied start l k (crashedRelay r)
   unfolding crashedRelay
-  tied-crashed = record {
-    facts = h .facts;
-    outside = h .outside;
-    inside = h .inside;
-    small = h .small;
-    view-small = h .view-small;
-    updates = h .updates;
-    generators = h .generators;
-    transfers = h .transfers;
-  }
+  tied-crashed = tied-as false (r .known) (r .pending) (r .transfers) (h .updates) (h .transfers)
 
 -- ---- a generator put back
 

@@ -22,7 +22,8 @@ use Rattle.safety.proofs.Lists.{all-none, all-at, all-replicate}
 use Rattle.safety.proofs.Log.{Entry, Log, _∋_, Sound, sound-nil}
 use Rattle.safety.proofs.Past.{sound-past}
 use Rattle.safety.proofs.Growth.{since-has, since-past}
-use Rattle.safety.proofs.RelayFacts.{relay-starts, relay-waits}
+use Rattle.safety.proofs.Numbers.{num}
+use Rattle.safety.proofs.RelayFacts.{RelayFacts, relay-starts, relay-waits}
 use Rattle.safety.proofs.DeskFacts.{resting, desk-starts}
 use Rattle.safety.proofs.Ties.{GeneratorTied, RelayTied, DeskTied, at-rest, PlaceBacked, WorldTied}
 use Rattle.safety.proofs.Deeds.{Deed, quiet, opens, begun, ended, Moves}
@@ -54,27 +55,22 @@ relay-at-start : (mask s : ℕ) → mask < 256 → RelayTied mask [] s (startRel
 unfolding startRelay
 relay-at-start mask s h = go (bit mask s)
   where
+    tied : (b : Bool) → let v = if b then mask else 0 in RelayFacts mask [] s v (num (zeroPair .stamp)) (zeroPair .value) b b → (b ≡ false → v ≡ 0) → v < 65536
+        → RelayTied mask [] s (record { alive = true; view = v; entered = b; active = b; known = mask; pending = 0; holds = zeroPair; generators = []; transfers = [] })
+    tied b f o i = record {
+      facts = f;
+      outside = o;
+      inside = λ e. e;
+      small = omega arith;
+      view-small = i;
+      updates = omega arith;
+      generators = fresh-tied s;
+      transfers = all-none;
+    }
+
     go : (b : Bool) → RelayTied mask [] s (record { alive = true; view = if b then mask else 0; entered = b; active = b; known = mask; pending = 0; holds = zeroPair; generators = []; transfers = [] })
-    go true = record {
-      facts = relay-starts mask s;
-      outside = λ e. absurd (true≢false e);
-      inside = λ e. e;
-      small = omega arith;
-      view-small = omega arith;
-      updates = omega arith;
-      generators = fresh-tied s;
-      transfers = all-none;
-    }
-    go false = record {
-      facts = relay-waits mask s;
-      outside = λ e. refl;
-      inside = λ e. e;
-      small = omega arith;
-      view-small = omega arith;
-      updates = omega arith;
-      generators = fresh-tied s;
-      transfers = all-none;
-    }
+    go true = tied true (relay-starts mask s) (λ e. absurd (true≢false e)) (omega arith)
+    go false = tied false (relay-waits mask s) (λ e. refl) (omega arith)
 
 started-relay : (mask s : ℕ) → s < 8 → relayAt (start mask) s ≡ startRelay mask s
 unfolding start
