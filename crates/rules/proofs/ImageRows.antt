@@ -20,8 +20,8 @@ use Rattle.rules.specs.Messages.{Body, request, view, proposal, converge
 use Rattle.rules.specs.State.{Generator, Transfer, Relay, Phase, Idle, Read1, Read2, Write1, Write2, Desk, Place, free, waiting}
 use Rattle.rules.specs.Generators.{fresh}
 use Rattle.rules.specs.Relays.{freshTransfer}
-use Rattle.rules.specs.Image.{flag, byte, sequenceBytes, pairBytes, headBytes, generatorBytes, transferBytes, relayBytes, phaseNumber, deskBytes, Row, bodyRow, placeRow, rowBytes, placeBytes, flagAt, sequenceAt, pairAt, generatorAt, transferAt, filledGenerator, filledTransfer, relayAt, phaseOf, deskAt, rowAt, bodyIn, placeIn}
-use Rattle.rules.proofs.ImageWidths.{length-sequence, pairFields, pairWidths, pair-widths, headFields, headWidths, head-widths, generatorFields, generatorWidths, generator-widths, length-generator, transferFields, transferWidths, transfer-widths, length-transfer, relayFields, relayWidths, relay-widths, deskFields, deskWidths, desk-widths, rowFields, rowWidths, row-widths}
+use Rattle.rules.specs.Image.{flag, byte, sequenceBytes, pairBytes, headBytes, generatorBytes, transferBytes, relayBytes, phaseNumber, deskBytes, Row, bodyRow, placeRow, rowBytes, placeBytes, flagAt, sequenceAt, pairAt, generatorAt, transferAt, filledGenerator, filledTransfer, relayAt, phaseOf, deskAt, rowAt, bodyIn, placeIn, pairFields, headFields, generatorFields, transferFields, relayFields, deskFields, rowFields}
+use Rattle.rules.proofs.ImageWidths.{length-sequence, pairWidths, pair-widths, headWidths, head-widths, generatorWidths, generator-widths, length-generator, transferWidths, transfer-widths, length-transfer, relayWidths, relay-widths, deskWidths, desk-widths, rowWidths, row-widths}
 use Rattle.rules.proofs.ImageFits.{SequenceFits, PairFits, NotesFit, GeneratorFits, TransferFits, RowsFit, RelayFits, DeskFits, RowFits}
 
 -- ---- bytes, sequences, pairs

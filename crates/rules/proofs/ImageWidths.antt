@@ -4,7 +4,7 @@ use mathlib.Core.List.{List, [], _∷_}
 use Prim.Native.Nat.{ℕ}
 use lib.ListN.{length, getD, length-append}
 use native.Mathlib.Omega.{arith}
-use Rattle.rows.specs.Bytes.{be16, be32, table, zeros}
+use Rattle.rows.specs.Bytes.{be16, table}
 use Rattle.rows.proofs.Laws.{length-run}
 use Rattle.rows.proofs.Numbers.{length-bytesOf}
 use Rattle.rows.proofs.Fields.{Widths, none, more, cat-length}
@@ -13,16 +13,13 @@ use Rattle.rules.specs.Stamps.{Pair}
 use Rattle.rules.specs.State.{Generator, Transfer, Relay, noRelay, Desk, noDesk, Place, free, World}
 use Rattle.rules.specs.Generators.{fresh}
 use Rattle.rules.specs.Relays.{freshTransfer}
-use Rattle.rules.specs.Image.{flag, byte, sequenceBytes, pairBytes, headBytes, generatorBytes, transferBytes, relayBytes, phaseNumber, deskBytes, Row, placeRow, rowBytes, placeBytes, image}
+use Rattle.rules.specs.Image.{sequenceBytes, pairBytes, headBytes, generatorBytes, transferBytes, relayBytes, deskBytes, Row, placeRow, rowBytes, placeBytes, image, pairFields, headFields, generatorFields, transferFields, relayFields, deskFields, rowFields, worldTables}
 
 pub length-sequence : (q : List ℕ) → length (sequenceBytes q) ≡ 31
 unfolding sequenceBytes
 length-sequence q = simp length-append (omega (arith, length-run 2 15 (λ k. be16 (getD q k 0)) (λ k. length-bytesOf 2 (getD q k 0))))
 
 -- ---- a stamp and its value
-
-abbrev pub pairFields : Pair → List (List ℕ)
-pairFields p = be16 (p .stamp .count) ∷ byte (p .stamp .desk) ∷ be32 (p .value) ∷ []
 
 abbrev pub pairWidths : List ℕ
 pairWidths = 2 ∷ 1 ∷ 4 ∷ []
@@ -35,14 +32,6 @@ unfolding pairBytes
 length-pair p = cat-length (pair-widths p)
 
 -- ---- a relay's head
-
-abbrev pub headFields : Relay → List (List ℕ)
-headFields r =
-    flag (r .alive) ∷ flag (r .entered) ∷ flag (r .active)
-    ∷ be16 (r .view) ∷ be16 (r .known) ∷ be16 (r .pending)
-    ∷ pairBytes (r .holds)
-    ∷ zeros 48
-    ∷ []
 
 abbrev pub headWidths : List ℕ
 headWidths = 1 ∷ 1 ∷ 1 ∷ 2 ∷ 2 ∷ 2 ∷ 7 ∷ 48 ∷ []
@@ -57,14 +46,6 @@ unfolding headBytes
 length-head r = cat-length (head-widths r)
 
 -- ---- a generator
-
-abbrev pub generatorFields : Generator → List (List ℕ)
-generatorFields g =
-    be16 (g .view)
-    ∷ sequenceBytes (g .own) ∷ sequenceBytes (g .converged) ∷ sequenceBytes (g .raised)
-    ∷ table sequenceBytes [] 8 (g .proposals) ∷ table sequenceBytes [] 8 (g .convergences)
-    ∷ zeros 1
-    ∷ []
 
 abbrev pub generatorWidths : List ℕ
 generatorWidths = 2 ∷ 31 ∷ 31 ∷ 31 ∷ 248 ∷ 248 ∷ 1 ∷ []
@@ -83,16 +64,6 @@ length-generator g = cat-length (generator-widths g)
 
 -- ---- a transfer
 
-abbrev pub transferFields : Transfer → List (List ℕ)
-transferFields t =
-    be16 (t .old) ∷ be16 (t .new)
-    ∷ sequenceBytes (t .sequence)
-    ∷ byte (t .senders)
-    ∷ pairBytes (t .best)
-    ∷ be16 (t .gathered)
-    ∷ zeros 35
-    ∷ []
-
 abbrev pub transferWidths : List ℕ
 transferWidths = 2 ∷ 2 ∷ 31 ∷ 1 ∷ 7 ∷ 2 ∷ 35 ∷ []
 
@@ -106,13 +77,6 @@ unfolding transferBytes
 length-transfer t = cat-length (transfer-widths t)
 
 -- ---- a relay
-
-abbrev pub relayFields : Relay → List (List ℕ)
-relayFields r =
-    headBytes r
-    ∷ table generatorBytes (fresh 0) 8 (r .generators)
-    ∷ table transferBytes (freshTransfer 0 0) 8 (r .transfers)
-    ∷ []
 
 abbrev pub relayWidths : List ℕ
 relayWidths = 64 ∷ 4736 ∷ 640 ∷ []
@@ -129,18 +93,6 @@ length-relay r = cat-length (relay-widths r)
 
 -- ---- a desk
 
-abbrev pub deskFields : Desk → List (List ℕ)
-deskFields d =
-    flag (d .alive)
-    ∷ byte (phaseNumber (d .phase))
-    ∷ be16 (d .view) ∷ be16 (d .tries)
-    ∷ pairBytes (d .holds)
-    ∷ byte (d .replied)
-    ∷ pairBytes (d .best)
-    ∷ flag (d .agreed)
-    ∷ zeros 42
-    ∷ []
-
 abbrev pub deskWidths : List ℕ
 deskWidths = 1 ∷ 1 ∷ 2 ∷ 2 ∷ 7 ∷ 1 ∷ 7 ∷ 1 ∷ 42 ∷ []
 
@@ -154,16 +106,6 @@ unfolding deskBytes
 length-desk d = cat-length (desk-widths d)
 
 -- ---- a message's row, and a place
-
-abbrev pub rowFields : Row → List (List ℕ)
-rowFields m =
-    byte (m .kind) ∷ byte (m .from) ∷ byte (m .to)
-    ∷ be16 (m .first) ∷ be16 (m .second) ∷ be16 (m .tries)
-    ∷ sequenceBytes (m .sequence)
-    ∷ pairBytes (m .pair)
-    ∷ be16 (m .updates)
-    ∷ zeros 31
-    ∷ []
 
 abbrev pub rowWidths : List ℕ
 rowWidths = 1 ∷ 1 ∷ 1 ∷ 2 ∷ 2 ∷ 2 ∷ 31 ∷ 7 ∷ 2 ∷ 31 ∷ []
@@ -182,14 +124,6 @@ unfolding placeBytes
 length-place p = length-row (placeRow p)
 
 -- ---- a world
-
-abbrev pub worldTables : World → List (List ℕ)
-worldTables w =
-    table relayBytes noRelay 8 (w .relays)
-    ∷ table deskBytes noDesk 4 (w .desks)
-    ∷ table placeBytes free 256 (w .places)
-    ∷ zeros 1280
-    ∷ []
 
 abbrev pub worldWidths : List ℕ
 worldWidths = 43520 ∷ 256 ∷ 20480 ∷ 1280 ∷ []

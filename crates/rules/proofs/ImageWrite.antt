@@ -11,8 +11,8 @@ use Rattle.rows.proofs.Tables.{splice-whole, table-length}
 use Rattle.rules.specs.State.{Generator, Transfer, Relay, withGenerators, withTransfers, noRelay, Desk, noDesk, Place, free, World, relayAt, deskAt, placeAt, withRelay, withDesk, withPlaces}
 use Rattle.rules.specs.Generators.{fresh}
 use Rattle.rules.specs.Relays.{freshTransfer}
-use Rattle.rules.specs.Image.{headBytes, generatorBytes, transferBytes, relayBytes, deskBytes, placeBytes, image}
-use Rattle.rules.proofs.ImageWidths.{length-head, length-generator, length-transfer, relayFields, relay-widths, length-relay, length-desk, length-place, worldTables, world-widths}
+use Rattle.rules.specs.Image.{headBytes, generatorBytes, transferBytes, relayBytes, deskBytes, placeBytes, image, relayFields, worldTables}
+use Rattle.rules.proofs.ImageWidths.{length-head, length-generator, length-transfer, relay-widths, length-relay, length-desk, length-place, world-widths}
 use Rattle.rules.proofs.ImageChange.{Changed, changed-set, table-change}
 use Rattle.rules.proofs.ImageWorld.{Shaped}
 

@@ -12,7 +12,7 @@ use Rattle.views.proofs.Sets.{member-lt}
 use Rattle.views.proofs.Truth.{contrary, either-true, cases}
 use Rattle.rules.specs.Sets.{_&&_, those, bit, member, all, allHold}
 use Rattle.rules.specs.Messages.{Body, request, view, proposal, converged, install, state, get, put, viewReply, pairReply, ack, Message, Sending, copies, outgoing, Refusal, dead, no-room, Answer, refused, does}
-use Rattle.rules.specs.State.{Desk, Phase, Idle, Read1, Read2, Write1, Write2, Relay, Place, free, waiting, World, crashedRelay, crashedDesk, noRelay, noDesk, relayAt, deskAt, placeAt, withRelay, withDesk, start}
+use Rattle.rules.specs.State.{Desk, Phase, Idle, Read1, Read2, Write1, Write2, Relay, Place, free, waiting, World, crashedRelay, crashedDesk, noRelay, noDesk, relayAt, deskAt, placeAt, withRelay, withDesk, withPlaces, start}
 use Rattle.rules.specs.Sending.{place, placeAll}
 use Rattle.rules.specs.Steps.{drop, Step, Act, join, leave, timer, read, write, deliver, crash, bad, is, told, Outcome, refusal, after, roomy, relayDoes, deskDoes, aliveIn, ifAlive, freed, delivers, delivery, dropping, crashing, acts, stepped}
 use Rattle.rules.specs.WellFormed.{isPair, allFrom, distinct, isDesk, goodGenerators, goodTransfers, goodRelay, goodPhase, goodDesk, between, goodBody, goodPlace, wellFormed}
@@ -125,6 +125,17 @@ unfolding outgoing copies SendsWell
 outgoing-sound from [] h = all-none sound
 outgoing-sound from (x ∷ ss) h = all-append sound (copies from x) (outgoing from ss) (copies-sound from x (h .0) _ (unfold all in refl)) (outgoing-sound from ss (h .1))
 
+-- what is sent well joins the messages that wait
+with-sent : {w : World} → Good w → (from : ℕ) (ss : List Sending) → SendsWell from ss → Good (withPlaces w (placeAll (outgoing from ss) (w .places)))
+with-sent {w} g from ss h = record {
+  eight = g .eight;
+  relays = g .relays;
+  four = g .four;
+  desks = g .desks;
+  many = places-length (outgoing from ss) (w .places) ∙ g .many;
+  places = places-good (outgoing from ss) (w .places) (outgoing-sound from ss h) (g .places);
+}
+
 -- ---- outcomes
 
 pub record Keeps (w : World) (o : Outcome) : Type 0 where
@@ -142,16 +153,7 @@ module _ (w f : World) (g : Good w) (k : Good f) (n : ℕ) where
       (λ c.
       let sizes = and-eq-true-iff (leb (length (r .generators)) 8) (leb (length (r .transfers)) 8) .0 (and-eq-true-iff (roomy f (outgoing s ss)) _ .0 c .1) in
       let next : Good (withRelay f s r) = with-relay f k s r (R.rel-tests s r (h .0) (sizes .0) (sizes .1)) in
-      record {
-        good = record {
-          eight = next .eight;
-          relays = next .relays;
-          four = next .four;
-          desks = next .desks;
-          many = places-length (outgoing s ss) (f .places) ∙ k .many;
-          places = places-good (outgoing s ss) (f .places) (outgoing-sound s ss (h .1)) (k .places);
-        };
-      })
+      record { good = with-sent next s ss (h .1) })
       (λ c. refuses w g no-room)
 
   desk-does : (d : ℕ) → (a : Answer Desk) → D.GoodAnswer d a → Keeps w (deskDoes f n d a)
@@ -161,16 +163,7 @@ module _ (w f : World) (g : Good w) (k : Good f) (n : ℕ) where
       cases (Keeps w) (roomy f (outgoing (8 + d) ss))
       (λ c.
       let put : Good (withDesk f d next) = with-desk f k d next (D.desk-tests next (h .0)) in
-      record {
-        good = record {
-          eight = put .eight;
-          relays = put .relays;
-          four = put .four;
-          desks = put .desks;
-          many = places-length (outgoing (8 + d) ss) (f .places) ∙ k .many;
-          places = places-good (outgoing (8 + d) ss) (f .places) (outgoing-sound (8 + d) ss (h .1)) (k .places);
-        };
-      })
+      record { good = with-sent put (8 + d) ss (h .1) })
       (λ c. refuses w g no-room)
 
 if-alive : (w : World) → Good w → (who : ℕ) (o : Outcome) → Keeps w o → Keeps w (ifAlive w who o)

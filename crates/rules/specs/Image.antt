@@ -34,45 +34,56 @@ byte x = x ∷ []
 unfoldable pub sequenceBytes : List ℕ → List ℕ
 sequenceBytes q = run 15 (λ k. be16 (getD q k 0)) ++ byte (length q)
 
-unfoldable pub pairBytes : Pair → List ℕ
-pairBytes p = cat (be16 (p .stamp .count) ∷ byte (p .stamp .desk) ∷ be32 (p .value) ∷ [])
+abbrev pub pairFields : Pair → List (List ℕ)
+pairFields p = be16 (p .stamp .count) ∷ byte (p .stamp .desk) ∷ be32 (p .value) ∷ []
 
-unfoldable pub headBytes : Relay → List ℕ
-headBytes r =
-    cat (
+unfoldable pub pairBytes : Pair → List ℕ
+pairBytes p = cat (pairFields p)
+
+abbrev pub headFields : Relay → List (List ℕ)
+headFields r =
     flag (r .alive) ∷ flag (r .entered) ∷ flag (r .active)
     ∷ be16 (r .view) ∷ be16 (r .known) ∷ be16 (r .pending)
     ∷ pairBytes (r .holds)
     ∷ zeros 48
-    ∷ [])
+    ∷ []
 
-unfoldable pub generatorBytes : Generator → List ℕ
-generatorBytes g =
-    cat (
+unfoldable pub headBytes : Relay → List ℕ
+headBytes r = cat (headFields r)
+
+abbrev pub generatorFields : Generator → List (List ℕ)
+generatorFields g =
     be16 (g .view)
     ∷ sequenceBytes (g .own) ∷ sequenceBytes (g .converged) ∷ sequenceBytes (g .raised)
     ∷ table sequenceBytes [] 8 (g .proposals) ∷ table sequenceBytes [] 8 (g .convergences)
     ∷ zeros 1
-    ∷ [])
+    ∷ []
 
-unfoldable pub transferBytes : Transfer → List ℕ
-transferBytes t =
-    cat (
+unfoldable pub generatorBytes : Generator → List ℕ
+generatorBytes g = cat (generatorFields g)
+
+abbrev pub transferFields : Transfer → List (List ℕ)
+transferFields t =
     be16 (t .old) ∷ be16 (t .new)
     ∷ sequenceBytes (t .sequence)
     ∷ byte (t .senders)
     ∷ pairBytes (t .best)
     ∷ be16 (t .gathered)
     ∷ zeros 35
-    ∷ [])
+    ∷ []
 
-unfoldable pub relayBytes : Relay → List ℕ
-relayBytes r =
-    cat (
+unfoldable pub transferBytes : Transfer → List ℕ
+transferBytes t = cat (transferFields t)
+
+abbrev pub relayFields : Relay → List (List ℕ)
+relayFields r =
     headBytes r
     ∷ table generatorBytes (fresh 0) 8 (r .generators)
     ∷ table transferBytes (freshTransfer 0 0) 8 (r .transfers)
-    ∷ [])
+    ∷ []
+
+unfoldable pub relayBytes : Relay → List ℕ
+relayBytes r = cat (relayFields r)
 
 abbrev pub phaseNumber : Phase → ℕ
 phaseNumber Idle = 0
@@ -81,9 +92,8 @@ phaseNumber Read2 = 2
 phaseNumber Write1 = 3
 phaseNumber Write2 = 4
 
-unfoldable pub deskBytes : Desk → List ℕ
-deskBytes d =
-    cat (
+abbrev pub deskFields : Desk → List (List ℕ)
+deskFields d =
     flag (d .alive)
     ∷ byte (phaseNumber (d .phase))
     ∷ be16 (d .view) ∷ be16 (d .tries)
@@ -92,7 +102,10 @@ deskBytes d =
     ∷ pairBytes (d .best)
     ∷ flag (d .agreed)
     ∷ zeros 42
-    ∷ [])
+    ∷ []
+
+unfoldable pub deskBytes : Desk → List ℕ
+deskBytes d = cat (deskFields d)
 
 -- a message with a field for everything that some kind says; what its own kind does not say is zero
 pub record Row : Type 0 where
@@ -127,28 +140,32 @@ abbrev pub placeRow : Place → Row
 placeRow free = row 0 0 0 0 0 0 [] zeroPair 0
 placeRow (waiting m) = bodyRow (m .from) (m .to) (m .body)
 
-unfoldable pub rowBytes : Row → List ℕ
-rowBytes m =
-    cat (
+abbrev pub rowFields : Row → List (List ℕ)
+rowFields m =
     byte (m .kind) ∷ byte (m .from) ∷ byte (m .to)
     ∷ be16 (m .first) ∷ be16 (m .second) ∷ be16 (m .tries)
     ∷ sequenceBytes (m .sequence)
     ∷ pairBytes (m .pair)
     ∷ be16 (m .updates)
     ∷ zeros 31
-    ∷ [])
+    ∷ []
+
+unfoldable pub rowBytes : Row → List ℕ
+rowBytes m = cat (rowFields m)
 
 unfoldable pub placeBytes : Place → List ℕ
 placeBytes p = rowBytes (placeRow p)
 
-unfoldable pub image : World → List ℕ
-image w =
-    cat (
+abbrev pub worldTables : World → List (List ℕ)
+worldTables w =
     table relayBytes noRelay 8 (w .relays)
     ∷ table deskBytes noDesk 4 (w .desks)
     ∷ table placeBytes free 256 (w .places)
     ∷ zeros 1280
-    ∷ [])
+    ∷ []
+
+unfoldable pub image : World → List ℕ
+image w = cat (worldTables w)
 
 -- ---- what bytes mean, whatever they are: read from index i on
 

@@ -6,6 +6,7 @@ use Prim.Native.Nat.{ℕ, suc, _≤_, _<_}
 use native.Mathlib.Omega.{arith}
 use Rattle.safety.proofs.Quorums.{Most}
 use Rattle.safety.proofs.Log.{Task, Op, Ask, get, put, Entry, tag, Log, _∋_, first, own, conv, raise, state, enter, begin, ask, reply, settle, finish, Begin, sends-get, sends-put, Asks, Result, Settle, Ends, put-down, Finish, Sound}
+use Rattle.safety.proofs.Growth.{ByDesk}
 use Rattle.safety.proofs.Past.{back, past-has, why}
 use Rattle.safety.proofs.Entries.{older, past-kind}
 
@@ -256,29 +257,16 @@ module _ {l : Log} {d n u : ℕ} {o : Op} (k : DeskFacts l d n u (putting o)) wh
       done (inr h) = done-more h
 
 -- an entry of another desk, or of none
-abbrev pub OfDesk : ℕ → Entry → Type 0
-OfDesk d (first j v q) = ⊥
-OfDesk d (own j v q) = ⊥
-OfDesk d (conv j v q) = ⊥
-OfDesk d (raise v q) = ⊥
-OfDesk d (state j x o w s y) = ⊥
-OfDesk d (enter j o w q s y) = ⊥
-OfDesk d (begin b n a) = b ≡ d
-OfDesk d (ask b n m v a) = b ≡ d
-OfDesk d (reply j b n v s y) = ⊥
-OfDesk d (settle o) = o .desk ≡ d
-OfDesk d (finish o) = o .desk ≡ d
-
 module _ {l : Log} {d n u : ℕ} {p : Stage} (k : DeskFacts l d n u p) where
-  pub desk-other : {e : Entry} → (OfDesk d e → ⊥) → DeskFacts (e ∷ l) d n u p
+  pub desk-other : {e : Entry} → (ByDesk d e → ⊥) → DeskFacts (e ∷ l) d n u p
   desk-other {e} f = record {
     tries = λ m h. tried-cases h (λ a c. absurd (other c refl)) (λ b v x c. absurd (other c refl)) (λ o c b q. absurd (other c b)) (k .tries m);
     done = λ m a h. done-later (k .done m a (older (λ c. other c refl) h));
     doing = go (k .doing);
   }
     where
-      other : {g : Entry} → g ≡ e → OfDesk d g → ⊥
-      other c h = f (subst (λ (x : Entry). OfDesk d x) c h)
+      other : {g : Entry} → g ≡ e → ByDesk d g → ⊥
+      other c h = f (subst (λ (x : Entry). ByDesk d x) c h)
 
       go : {p : Stage} → Doing l d n u p → Doing (e ∷ l) d n u p
       go rests = rests

@@ -2,7 +2,7 @@
 use mathlib.Core.Path.{_≡_, refl, sym, subst, ap, _∙_}
 use mathlib.Core.Logic.{_⊎_, inl, inr, ⊎-elim}
 use mathlib.Core.Bool.{Bool, true, false, not, _&&_, false≢true, and-eq-true-iff}
-use mathlib.Core.List.{_∷_, List·Memᴰ·head, List·Memᴰ·tail}
+use mathlib.Core.List.{[], _∷_, List·Memᴰ·head, List·Memᴰ·tail}
 use Prim.Native.Nat.{ℕ, suc, _+_, _*_, _/_, _^_, _<_}
 use native.Mathlib.Omega.{arith}
 use lib.Dec.{eqb}
@@ -14,11 +14,11 @@ use Rattle.views.proofs.Truth.{contrary, cases, either-true, true-right}
 use Rattle.views.proofs.Digits.{bit-none, bit-or, bit-one}
 use Rattle.rules.specs.Sets.{member, reaches}
 use Rattle.rules.specs.Stamps.{Pair, sameStamp}
-use Rattle.rules.specs.Messages.{Body, request, view, proposal, converged, install, state as stateSays, get as getSays, put as putSays, viewReply, pairReply, ack}
+use Rattle.rules.specs.Messages.{Body, request, view, proposal, converged, install, state as stateSays, get as getSays, put as putSays, viewReply, pairReply, ack, Event}
 use Rattle.rules.specs.declared.Desk.{Desk}
 use Rattle.rules.specs.declared.Phase.{Phase}
 use Rattle.rules.specs.declared.Phase.the-variants.{Read1, Read2, Write1, Write2}
-use Rattle.rules.specs.Desks.{isIdle, isFirst, isSecond, full, current, agrees, notesPair, notesAck, stamps, completes, counted, pairCame, ackCame, deskHears}
+use Rattle.rules.specs.Desks.{ended, isIdle, isFirst, isSecond, full, current, agrees, notesPair, notesAck, stamps, completes, counted, pairCame, ackCame, deskHears}
 use Rattle.safety.proofs.Lists.{all-none}
 use Rattle.safety.proofs.Quorums.{Most}
 use Rattle.safety.proofs.Numbers.{num, Small, Greater, takes, stays, greatest-num, greatest-small, same-num}
@@ -29,7 +29,7 @@ use Rattle.safety.proofs.Growth.{stay, add}
 use Rattle.safety.proofs.DeskFacts.{DeskFacts, Doing, asks as asks-now, puts as puts-now, Stage, resting, asking, putting, settle-justified, put-justified, desk-puts, at-once-justified, desk-rests-at-once, finish-justified, desk-rests}
 use Rattle.safety.proofs.Notes.{Notes, note-greater, note-other, Replies, read-justified, write-justified}
 use Rattle.safety.proofs.Ties.{Firsts, Acks, Phased, at-rest, at-read1, at-write1, at-read2, at-write2, DeskTied, Backed}
-use Rattle.safety.proofs.DeskSteps.{DeskDone, ends, says-read, says-write, clear-acks, still, begins-done, view-done}
+use Rattle.safety.proofs.DeskSteps.{Says, DeskStep, DeskDone, ends, says-read, says-write, clear-acks, still, begins-done, view-done}
 
 -- ---- noting a reply
 
@@ -149,30 +149,25 @@ module _ {start : ℕ} {l : Log} {n : ℕ} (S : Sound start l) (s : n < 4) (d : 
   mine : {o : Op} → Doing l n (d .tries) (d .view) (putting o) → o .desk ≡ n
   mine (puts-now e b c a g) = e
 
+  acked : {o : Op} {e : Event} → Says e (d .holds) → Acks l n d o → DeskFacts l n (d .tries) (d .view) (putting o) → DeskStep start l n (ended d) [] e
+  acked {o} says A f = record {
+    mid = l;
+    quiet = stay;
+    log = finish o ∷ l;
+    ending = ends o says (mine (f .doing)) (A .stamp-is) (A .value-is) (A .small);
+    sound = sound-more (finish o) S (finish-justified f (acknowledged A));
+    tied = record { stage = resting; facts = desk-rests f; phased = at-rest };
+    sent = all-none;
+  }
+
   -- "write 2 ends, event 3; .. read 2 ends, event 2"
   completes-done : {p : Phase} {g : Stage} → Phased l n d p g → d .phase ≡ p → DeskFacts l n (d .tries) (d .view) g → DeskDone start l n (completes n d p)
   unfolding completes
   completes-done at-rest e f = still d S (record { stage = resting; facts = f; phased = rw e at-rest })
   completes-done (at-read1 F) e f = read1-done F f
   completes-done (at-write1 F) e f = write1-done F f
-  completes-done (at-read2 {o = o} t A) e f = record {
-    mid = l;
-    quiet = stay;
-    log = finish o ∷ l;
-    ending = ends o says-read (mine (f .doing)) (A .stamp-is) (A .value-is) (A .small);
-    sound = sound-more (finish o) S (finish-justified f (acknowledged A));
-    tied = record { stage = resting; facts = desk-rests f; phased = at-rest };
-    sent = all-none;
-  }
-  completes-done (at-write2 {o = o} t A) e f = record {
-    mid = l;
-    quiet = stay;
-    log = finish o ∷ l;
-    ending = ends o says-write (mine (f .doing)) (A .stamp-is) (A .value-is) (A .small);
-    sound = sound-more (finish o) S (finish-justified f (acknowledged A));
-    tied = record { stage = resting; facts = desk-rests f; phased = at-rest };
-    sent = all-none;
-  }
+  completes-done (at-read2 t A) e f = acked says-read A f
+  completes-done (at-write2 t A) e f = acked says-write A f
 
 module _ {start : ℕ} {l : Log} {n : ℕ} (S : Sound start l) (s : n < 4) where
   counted-done : (d : Desk) → DeskTied l n d → DeskDone start l n (counted n d)

@@ -14,7 +14,7 @@ use Rattle.safety.proofs.Log.{Op, Entry, Log, _∋_, first, own, conv, 
 use Rattle.safety.proofs.Growth.{Since, stay, add, since-has, one-more, Turning, ByRelay, ByDesk}
 use Rattle.safety.proofs.RelayFacts.{About, RelayFacts, relay-other}
 use Rattle.safety.proofs.GeneratorFacts.{generator-other}
-use Rattle.safety.proofs.DeskFacts.{Stage, OfDesk, desk-other}
+use Rattle.safety.proofs.DeskFacts.{Stage, desk-other}
 use Rattle.safety.proofs.Notes.{notes-more}
 use Rattle.safety.proofs.Ties.{GeneratorTied, Plan, TransferTied, GeneratorsTied, RelayTied, Firsts, Acks, Phased, at-rest, at-read1, at-write1, at-read2, at-write2, DeskTied, Backed, SendingBacked, PlaceBacked}
 
@@ -125,7 +125,7 @@ module _ {l : Log} {e : Entry} {k : ℕ} where
     transfers = transfers-since one-more (h .transfers);
   }
 
-pub desk-more : {l : Log} {e : Entry} {n : ℕ} {d : Desk} → (OfDesk n e → ⊥) → DeskTied l n d → DeskTied (e ∷ l) n d
+pub desk-more : {l : Log} {e : Entry} {n : ℕ} {d : Desk} → (ByDesk n e → ⊥) → DeskTied l n d → DeskTied (e ∷ l) n d
 desk-more f h = record { stage = h .stage; facts = desk-other (h .facts) f; phased = phased-since one-more (h .phased) }
 
 -- ---- entries of others
@@ -156,7 +156,7 @@ about-desk j d (reply i b t u s y) h a = h
 about-desk j d (settle o) h a = a
 about-desk j d (finish o) h a = a
 
-desk-of-relay : (n k : ℕ) (e : Entry) → ByRelay k e → OfDesk n e → ⊥
+desk-of-relay : (n k : ℕ) (e : Entry) → ByRelay k e → ByDesk n e → ⊥
 desk-of-relay n k (first i u q) h a = a
 desk-of-relay n k (own i u q) h a = a
 desk-of-relay n k (conv i u q) h a = a
@@ -169,7 +169,7 @@ desk-of-relay n k (reply i b t u s y) h a = a
 desk-of-relay n k (settle o) h a = h
 desk-of-relay n k (finish o) h a = h
 
-desk-of-other : (n d : ℕ) (e : Entry) → (n ≡ d → ⊥) → ByDesk d e → OfDesk n e → ⊥
+desk-of-other : (n d : ℕ) (e : Entry) → (n ≡ d → ⊥) → ByDesk d e → ByDesk n e → ⊥
 desk-of-other n d (first i u q) f h a = a
 desk-of-other n d (own i u q) f h a = a
 desk-of-other n d (conv i u q) f h a = a
