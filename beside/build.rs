@@ -1,18 +1,28 @@
-//! Links the engine's archive where it can be linked: it is for x86-64, and the stub
-//! may stand in for it. On other machines it is called through a pipe.
+//! Links the engine's archive where it is for this machine: the toolchain's is for x86-64,
+//! ENGINE names the folder of one made for another (checks/native), and the stub may stand
+//! in for it. Elsewhere the engine is called through a pipe.
 
 use std::env;
-use std::path::Path;
+use std::path::{Path, PathBuf};
 
 fn main() {
+    println!("cargo:rustc-check-cfg=cfg(linked)");
+    println!("cargo:rerun-if-env-changed=ENGINE");
     let here = env::var("CARGO_MANIFEST_DIR").expect("cargo sets it");
-    let folder = Path::new(&here).join("../target/staticlib");
+    let named = env::var_os("ENGINE").map(PathBuf::from);
+    let own = env::var("CARGO_CFG_TARGET_ARCH").expect("cargo sets it") == "x86_64";
+    let linked = own || named.is_some();
+    let folder = named.unwrap_or_else(|| Path::new(&here).join("../target/staticlib"));
     let archive = folder.join("libengine.a");
     println!("cargo:rerun-if-changed={}", archive.display());
-    let other = env::var("CARGO_CFG_TARGET_ARCH").expect("cargo sets it") != "x86_64";
-    if other || env::var_os("CARGO_FEATURE_STUB").is_some() {
+    if env::var_os("CARGO_FEATURE_STUB").is_some() {
+        println!("cargo:rustc-cfg=linked");
         return;
     }
+    if !linked {
+        return;
+    }
+    println!("cargo:rustc-cfg=linked");
     if !archive.is_file() {
         eprintln!("{} is missing.", archive.display());
         eprintln!("Build it at the repository's top: rt staticlib engine");

@@ -1,11 +1,10 @@
 //! The boundary: the engine's three functions, and nothing else of it. They are linked
-//! where the machine is the one that the archive is for (x86-64), and called through a
-//! pipe on any other.
+//! where the archive is for this machine, and called through a pipe where it is not.
 
-#[cfg(any(target_arch = "x86_64", feature = "stub"))]
+#[cfg(linked)]
 #[path = "linked.rs"]
 mod way;
-#[cfg(not(any(target_arch = "x86_64", feature = "stub")))]
+#[cfg(not(linked))]
 #[path = "piped.rs"]
 mod way;
 
@@ -15,7 +14,7 @@ use second::step::Step;
 pub const TOLD: usize = 9;
 
 /// Whether a call runs at the machine's own speed.
-pub const LINKED: bool = cfg!(any(target_arch = "x86_64", feature = "stub"));
+pub const LINKED: bool = cfg!(linked);
 
 /// 1 for a good world, else 0.
 pub fn good(world: &[u8]) -> u8 {

@@ -11,7 +11,8 @@ use second::world::World;
 use std::hint::black_box;
 use std::time::Instant;
 
-const CHECKS: usize = 500;
+const CHECKS: usize = 25;
+const BATCHES: usize = 40;
 
 fn per(begun: Instant, count: usize) -> f64 {
     begun.elapsed().as_secs_f64() * 1e6 / count as f64
@@ -42,17 +43,22 @@ fn steps(name: &str, sheet: &Sheet) -> Vec<u8> {
     world
 }
 
+/// The least of many batches: whatever else the machine does counts as little as it can.
 fn check(name: &str, world: &[u8]) {
-    let begun = Instant::now();
-    for _ in 0..CHECKS {
-        assert_eq!(engine::good(black_box(world)), 1);
-    }
-    println!("world_good, {name}: {:.1} us", per(begun, CHECKS));
+    let batch = || {
+        let begun = Instant::now();
+        for _ in 0..CHECKS {
+            assert_eq!(engine::good(black_box(world)), 1);
+        }
+        per(begun, CHECKS)
+    };
+    let least = (0..BATCHES).map(|_| batch()).fold(f64::INFINITY, f64::min);
+    println!("world_good, {name}: {least:.1} us");
 }
 
 fn main() {
     if !engine::LINKED {
-        eprintln!("bench: the engine's archive is for x86-64; a time taken through a pipe says nothing");
+        eprintln!("bench: a time taken through a pipe says nothing; checks/benchmark builds the engine for this machine");
         std::process::exit(2);
     }
     let seed = std::env::args().nth(1).map_or(Ok(4), |word| word.parse());
