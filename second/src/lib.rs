@@ -8,6 +8,7 @@ pub mod good;
 pub mod hand;
 pub mod image;
 pub mod message;
+pub mod places;
 pub mod plan;
 pub mod record;
 pub mod refusal;

@@ -43,6 +43,14 @@ fn line(number: usize, report: &Report) -> String {
 }
 
 pub fn rehearse(bytes: &[u8]) -> (String, Coverage) {
+    rehearse_with(bytes, |_, _| String::new())
+}
+
+/// The record, with what `below` says of each step below its line.
+pub fn rehearse_with(
+    bytes: &[u8],
+    below: impl Fn(&World, &Report) -> String,
+) -> (String, Coverage) {
     let mut coverage = Coverage::default();
     let read = sheet::read(bytes).ok();
     let begun = read.and_then(|sheet| World::start(sheet.mask).map(|world| (sheet, world)));
@@ -57,6 +65,7 @@ pub fn rehearse(bytes: &[u8]) -> (String, Coverage) {
         totals.count(asked, &report);
         coverage.count(report.answer, report.event, &report.rules);
         text.push_str(&line(index + 1, &report));
+        text.push_str(&below(&world, &report));
     }
     let Totals {
         sent,

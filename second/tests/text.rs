@@ -131,7 +131,11 @@ fn a_wrong_start() {
         wrong(&format!("START {word}"), &format!("{wants}, not '{word}'"));
     }
     wrong("START", &format!("{wants}, and the line ends before it"));
-    wrong("START 1 2", "line 1: '2' is one word too many for START");
+    wrong("START 1 x", "line 1: 'x' is one word too many for START");
+    wrong(
+        "START 0 1 2",
+        "line 1: START takes one mask: did you mean START relays 0 1 2?",
+    );
     let wants = "line 1: START relays wants a relay 0 to 7";
     wrong(
         "START relays",
@@ -204,6 +208,10 @@ fn words_too_many_and_unknown() {
             &format!("unknown word '{word}': did you mean {meant}?"),
         );
     }
+    wrong_step(
+        "4 DELIVER 0",
+        "a step begins with a word: did you mean 4 * DELIVER 0?",
+    );
     wrong_step(
         "TRANSMIT 1",
         "unknown word 'TRANSMIT': a step begins with JOIN, LEAVE, TIMER, READ, WRITE, DELIVER, \

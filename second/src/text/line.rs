@@ -79,6 +79,12 @@ pub fn start(words: &[&str]) -> Result<u8, String> {
     if rest.next_is("relays") {
         return mask_of_relays(rest);
     }
+    if rest.words.len() > 1 && rest.words.iter().all(|word| digits(word).is_some()) {
+        let relays = rest.words.join(" ");
+        return Err(format!(
+            "{START} takes one mask: did you mean {START} relays {relays}?"
+        ));
+    }
     let mask = rest.byte("relays, or a mask", 1..=255)?;
     rest.end()?;
     Ok(mask)
@@ -128,6 +134,12 @@ fn step(words: &[&str]) -> Result<Step, String> {
     }
     match FORMS.iter().find(|form| is(form.word)) {
         Some(form) => named_step(form, Rest::of(form.word, rest)),
+        None if digits(first).is_some() && !rest.is_empty() => {
+            let repeated = rest.join(" ");
+            Err(format!(
+                "a step begins with a word: did you mean {first} * {repeated}?"
+            ))
+        }
         None => Err(format!("unknown word '{first}': {}", suggestion(first))),
     }
 }
