@@ -1,5 +1,6 @@
 pub mod Refusals
 pub mod Order
+pub mod Table
 pub mod Starts
 pub mod Counts
 pub mod Hold

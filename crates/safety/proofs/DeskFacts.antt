@@ -5,7 +5,7 @@ use mathlib.Core.List.{[], _∷_, List·Memᴰ·head, List·Memᴰ·tail, List·
 use Prim.Native.Nat.{ℕ, suc, _≤_, _<_}
 use native.Mathlib.Omega.{arith}
 use Rattle.safety.proofs.Quorums.{Most}
-use Rattle.safety.proofs.Log.{Task, Op, Ask, get, put, Entry, tag, Log, _∋_, first, own, conv, raise, state, enter, begin, ask, reply, settle, finish, Begin, sends-get, sends-put, Asks, Result, Settle, Ends, put-down, Finish, Sound}
+use Rattle.safety.proofs.Log.{Task, Op, Ask, get, put, Entry, tag, Log, _∋_, begin, ask, reply, settle, finish, Begin, sends-get, sends-put, Asks, Result, Settle, Ends, put-down, Finish, Sound}
 use Rattle.safety.proofs.Growth.{ByDesk}
 use Rattle.safety.proofs.Past.{back, past-has, why}
 use Rattle.safety.proofs.Entries.{older, past-kind}

@@ -1,0 +1,191 @@
+-- The table of answers, each row with document 01's own condition, over any world and any step. That the rules answer by it is in Order.antt. Assumes nothing.
+use mathlib.Core.Bool.{Bool, true, false, not}
+use mathlib.Core.List.{List, [], _∷_}
+use Prim.Native.Nat.{ℕ, _+_, _-_}
+use lib.Dec.{eqb, leb, ltb}
+use lib.ListN.{length}
+use Rattle.rules.specs.Sets.{_&&_, _||_, if_then_else_, within, member, reaches, inside, joins}
+use Rattle.rules.specs.Messages.{Body, request, view, proposal, converged, install, state, get, put, viewReply, pairReply, ack, Message, outgoing, Answer, refused, does}
+use Rattle.rules.specs.State.{Desk, Phase, Idle, Read1, Read2, Write1, Write2, Relay, Place, free, waiting, World, relayAt, deskAt, placeAt}
+use Rattle.rules.specs.Relays.{joinAsked, leaveAsked, timerRang, relayHears}
+use Rattle.rules.specs.Desks.{isIdle, isFirst, isSecond, full, notesPair, notesAck, readAsked, writeAsked, current, deskHears}
+use Rattle.rules.specs.Steps.{Act, join, leave, timer, read, write, deliver, drop, crash, bad, roomy, aliveIn, freed}
+
+-- the number of the first row that applies; 0, done, where none does
+abbrev pub firstOf : List (Bool × ℕ) → ℕ
+firstOf [] = 0
+firstOf (r ∷ rs) = if r .0 then r .1 else firstOf rs
+
+abbrev pub badStep : Act → Bool
+badStep (join s) = false
+badStep (leave s) = false
+badStep (timer s) = false
+badStep (read n) = false
+badStep (write n x) = false
+badStep (deliver p) = false
+badStep (drop p) = false
+badStep (crash who) = false
+badStep bad = true
+
+-- "DELIVER or DROP of a free place"
+abbrev pub isFree : Place → Bool
+isFree free = true
+isFree (waiting m) = false
+
+abbrev pub emptyPlace : World → Act → Bool
+emptyPlace w (join s) = false
+emptyPlace w (leave s) = false
+emptyPlace w (timer s) = false
+emptyPlace w (read n) = false
+emptyPlace w (write n x) = false
+emptyPlace w (deliver p) = isFree (placeAt w p)
+emptyPlace w (drop p) = isFree (placeAt w p)
+emptyPlace w (crash who) = false
+emptyPlace w bad = false
+
+-- "actor, receiver of a DELIVER, or CRASH target crashed"
+abbrev pub isDead : World → ℕ → Bool
+isDead w who = not (aliveIn w who)
+
+abbrev pub receiverDead : World → Place → Bool
+receiverDead w free = false
+receiverDead w (waiting m) = isDead w (m .to)
+
+abbrev pub deadOne : World → Act → Bool
+deadOne w (join s) = isDead w s
+deadOne w (leave s) = isDead w s
+deadOne w (timer s) = isDead w s
+deadOne w (read n) = isDead w (8 + n)
+deadOne w (write n x) = isDead w (8 + n)
+deadOne w (deliver p) = receiverDead w (placeAt w p)
+deadOne w (drop p) = false
+deadOne w (crash who) = isDead w who
+deadOne w bad = false
+
+-- "JOIN is NOT NOW if the relay has entered any view or its join is in its known view", "LEAVE is NOT NOW unless it is a member of its view", "TIMER is NOT NOW unless active and its view
+-- lacks a pending update", "READ and WRITE are NOT NOW unless the desk is idle"
+abbrev pub notNow : World → Act → Bool
+notNow w (join s) = relayAt w s .entered || within (joins s) (relayAt w s .known)
+notNow w (leave s) = not (member (relayAt w s .view) s)
+notNow w (timer s) = not (relayAt w s .active && not (within (relayAt w s .pending) (relayAt w s .view)))
+notNow w (read n) = not (isIdle (deskAt w n .phase))
+notNow w (write n x) = not (isIdle (deskAt w n .phase))
+notNow w (deliver p) = false
+notNow w (drop p) = false
+notNow w (crash who) = false
+notNow w bad = false
+
+-- an install: "NOT YET exactly if the receiver is a member of o and its own view neither equals nor includes o"; "Get(try, c), Put(..): NOT YET unless active and c equals the own view or is inside it"
+abbrev pub mustWait : ℕ → Relay → Body → Bool
+mustWait s r (install o w q) = member o s && not (eqb (r .view) o || inside o (r .view))
+mustWait s r (get try c) = not (r .active && (eqb c (r .view) || inside c (r .view)))
+mustWait s r (put try c p) = not (r .active && (eqb c (r .view) || inside c (r .view)))
+mustWait s r (request u c) = false
+mustWait s r (view v) = false
+mustWait s r (proposal v q) = false
+mustWait s r (converged v q) = false
+mustWait s r (state o w p u) = false
+mustWait s r (viewReply try v) = false
+mustWait s r (pairReply try p) = false
+mustWait s r (ack try) = false
+
+abbrev pub messageWaits : World → Place → Bool
+messageWaits w free = false
+messageWaits w (waiting m) = ltb (m .to) 8 && mustWait (m .to) (relayAt w (m .to)) (m .body)
+
+abbrev pub notYet : World → Act → Bool
+notYet w (join s) = false
+notYet w (leave s) = false
+notYet w (timer s) = false
+notYet w (read n) = false
+notYet w (write n x) = false
+notYet w (deliver p) = messageWaits w (placeAt w p)
+notYet w (drop p) = false
+notYet w (crash who) = false
+notYet w bad = false
+
+-- "a try or stamp count would pass 65,535": what the end of this phase starts would
+abbrev pub phaseWears : Desk → Phase → Bool
+phaseWears d Idle = false
+phaseWears d Read1 = not (d .agreed) && full (d .tries)
+phaseWears d Read2 = false
+phaseWears d Write1 = full (d .best .stamp .count) || full (d .tries)
+phaseWears d Write2 = false
+
+-- "At a quorum of replies"
+abbrev pub quorumWears : Desk → Bool
+quorumWears d = reaches (d .view) (d .replied) && phaseWears d (d .phase)
+
+abbrev pub replyWears : Desk → ℕ → Body → Bool
+replyWears d from (viewReply try v) = (current d from try && inside (d .view) v) && full (d .tries)
+replyWears d from (pairReply try p) = (current d from try && isFirst (d .phase)) && quorumWears (notesPair d from p)
+replyWears d from (ack try) = (current d from try && isSecond (d .phase)) && quorumWears (notesAck d from)
+replyWears d from (request u c) = false
+replyWears d from (view v) = false
+replyWears d from (proposal v q) = false
+replyWears d from (converged v q) = false
+replyWears d from (install o w q) = false
+replyWears d from (state o w p u) = false
+replyWears d from (get try c) = false
+replyWears d from (put try c p) = false
+
+abbrev pub messageWears : World → Place → Bool
+messageWears w free = false
+messageWears w (waiting m) = not (ltb (m .to) 8) && replyWears (deskAt w (m .to - 8)) (m .from) (m .body)
+
+abbrev pub wornOut : World → Act → Bool
+wornOut w (join s) = false
+wornOut w (leave s) = false
+wornOut w (timer s) = false
+wornOut w (read n) = full (deskAt w n .tries)
+wornOut w (write n x) = full (deskAt w n .tries)
+wornOut w (deliver p) = messageWears w (placeAt w p)
+wornOut w (drop p) = false
+wornOut w (crash who) = false
+wornOut w bad = false
+
+-- the rule that the step comes to: what it answers, and the world whose room counts
+pub data Ruling : Type 0 where
+  relayed : World → (s : ℕ) → Answer Relay → Ruling
+  desked : World → (n : ℕ) → Answer Desk → Ruling
+  -- DROP and CRASH come to none
+  unruled : Ruling
+
+-- "its own delivered place counted as free"
+abbrev pub heardBy : World → Message → Ruling
+heardBy f m =
+    if ltb (m .to) 8
+    then relayed f (m .to) (relayHears (m .to) (relayAt f (m .to)) (m .from) (m .body))
+    else desked f (m .to - 8) (deskHears (m .to - 8) (deskAt f (m .to - 8)) (m .from) (m .body))
+
+abbrev pub delivered : World → ℕ → Place → Ruling
+delivered w p free = unruled
+delivered w p (waiting m) = heardBy (freed w p) m
+
+abbrev pub ruling : World → Act → Ruling
+ruling w (join s) = relayed w s (joinAsked s (relayAt w s))
+ruling w (leave s) = relayed w s (leaveAsked s (relayAt w s))
+ruling w (timer s) = relayed w s (timerRang (relayAt w s))
+ruling w (read n) = desked w n (readAsked (deskAt w n))
+ruling w (write n x) = desked w n (writeAsked (deskAt w n) x)
+ruling w (deliver p) = delivered w p (placeAt w p)
+ruling w (drop p) = unruled
+ruling w (crash who) = unruled
+ruling w bad = unruled
+
+-- "more messages, generators or transfers than are free"
+abbrev pub relayRoom : World → ℕ → Answer Relay → Bool
+relayRoom f s (refused x) = true
+relayRoom f s (does r ss e) = roomy f (outgoing s ss) && (leb (length (r .generators)) 8 && leb (length (r .transfers)) 8)
+
+abbrev pub deskRoom : World → ℕ → Answer Desk → Bool
+deskRoom f d (refused x) = true
+deskRoom f d (does next ss e) = roomy f (outgoing (8 + d) ss)
+
+abbrev pub room : Ruling → Bool
+room (relayed f s a) = relayRoom f s a
+room (desked f d a) = deskRoom f d a
+room unruled = true
+
+abbrev pub table : World → Act → List (Bool × ℕ)
+table w a = (badStep a, 2) ∷ (emptyPlace w a, 3) ∷ (deadOne w a, 4) ∷ (notNow w a, 5) ∷ (notYet w a, 6) ∷ (wornOut w a, 7) ∷ (not (room (ruling w a)), 8) ∷ []
