@@ -8,6 +8,40 @@ ghost use Rattle.views.specs.View.{membersOf, memberOf, quorumOf, reache
 ghost use Rattle.views.specs.Chain.{some, hasOf, lacksOf, conflictOf, sameOf, leastOf, mostOf, plusOf, unionOf, heardOf, beyondOf, aboveOf};
 ghost use Rattle.views.specs.Row.{viewsOf, rowOf};
 
+// ---- how a row of views grows, for the functions below; its unused entries are zero and stay so
+
+// One view more, at the end; a full row stays as it is.
+fn push(q: Sequence, v: u16) -> Sequence
+    requires { ⌜ q ≡ rowOf (viewsOf q) ⌝ }
+    ensures { λ r. ⌜ r ≡ rowOf (viewsOf q ++ (v ∷ [])) ⌝ }
+{
+    let n = count(q);
+    if n == 15 {
+        return q;
+    }
+    let mut r = q;
+    r.views[n] = v;
+    r.len = n + 1;
+    r
+}
+
+// The views of r, and then those of q from place at on.
+fn rest(r: Sequence, q: Sequence, at: usize) -> Sequence
+    requires { ⌜ r ≡ rowOf (viewsOf r) ⌝ }
+    ensures { λ a. ⌜ a ≡ rowOf (viewsOf r ++ drop at (viewsOf q)) ⌝ }
+{
+    let mut a = r;
+    let n = count(q);
+    let mut i = at;
+    while i < n {
+        a = push(a, view_at(q, i));
+        i += 1;
+    }
+    a
+}
+
+// ---- views
+
 // The relays that joined and have not left, one bit each.
 pub fn members(v: u16) -> u8
     ensures { λ r. ⌜ r ≡ membersOf v ⌝ }
@@ -74,6 +108,8 @@ pub fn join(a: u16, b: u16) -> u16
 {
     a | b
 }
+
+// ---- sequences
 
 // A row of views, innermost first; the entries from len on are unused.
 pub struct Sequence {
@@ -213,40 +249,10 @@ pub fn most(q: Sequence) -> u16
     view_at(q, n - 1)
 }
 
-// One view more, at the end; a full row stays as it is.
-fn push(q: Sequence, v: u16) -> Sequence
-    requires { ⌜ q ≡ rowOf (viewsOf q) ⌝ }
-    ensures { λ r. ⌜ r ≡ rowOf (viewsOf q ++ (v ∷ [])) ⌝ }
-{
-    let n = count(q);
-    if n == 15 {
-        return q;
-    }
-    let mut r = q;
-    r.views[n] = v;
-    r.len = n + 1;
-    r
-}
-
 pub fn single(v: u16) -> Sequence
     ensures { λ r. ⌜ r ≡ rowOf (v ∷ []) ⌝ }
 {
     push(empty(), v)
-}
-
-// The views of r, and then those of q from place at on.
-fn rest(r: Sequence, q: Sequence, at: usize) -> Sequence
-    requires { ⌜ r ≡ rowOf (viewsOf r) ⌝ }
-    ensures { λ a. ⌜ a ≡ rowOf (viewsOf r ++ drop at (viewsOf q)) ⌝ }
-{
-    let mut a = r;
-    let n = count(q);
-    let mut i = at;
-    while i < n {
-        a = push(a, view_at(q, i));
-        i += 1;
-    }
-    a
 }
 
 // One view more, at its place.
