@@ -2,16 +2,19 @@
 use mathlib.Core.Path.{_≡_, refl, sym, ap}
 use mathlib.Core.Bool.{Bool, true, false, not, and-eq-true-iff}
 use mathlib.Core.List.{List, [], _∷_, _++_}
-use Prim.Native.Nat.{ℕ, zero, suc, _+_, _-_, _*_, _/_, _%_, _≤_, _<_}
+use Prim.Native.Nat.{ℕ, zero, suc, _+_, _-_, _*_, _%_, _≤_, _<_}
 use native.Mathlib.Omega.{arith}
 use lib.Dec.{eqb, ltb}
 use lib.ListN.{length, getD, drop}
-use lib.Pow.{shr-shr}
 use borrow.Author.Tests.{eqb-true, not-false, le-ltb, eq-eqb, ne-eqb}
 use Rattle.views.proofs.Truth.{contrary, neither-true}
 use Rattle.rules.specs.Sets.{_&&_, _||_}
 use Rattle.rules.specs.Steps.{Step}
-use Rattle.rules.specs.Sheets.{bytes4, stepIn, stepBytes, stepsIn, allZerosIn, stepsBytes, sheet, marked, stepsOf, badSheet, sheetIn, sheetBytes}
+use Rattle.rows.specs.Bytes.{bytesOf, be32, u32At}
+use Rattle.rows.proofs.Laws.{Holds, holds-same}
+use Rattle.rows.proofs.Numbers as Numbers
+use Rattle.rows.proofs.Numbers.{number-held, length-be32, holds-u32}
+use Rattle.rules.specs.Sheets.{stepIn, stepBytes, stepsIn, allZerosIn, stepsBytes, sheet, marked, stepsOf, badSheet, sheetIn, sheetBytes}
 
 -- a step that a sheet can hold; a list of them
 pub record Small (k : Step) : Type 0 where
@@ -23,31 +26,23 @@ unfoldable pub Smalls : List Step → Type 0
 Smalls [] = Unit {0}
 Smalls (k ∷ ks) = Small k × Smalls ks
 
-value-back : (x : ℕ) → x < 4294967296 → ((x / 16777216 % 256 * 256 + x / 65536 % 256) * 256 + x / 256 % 256) * 256 + x % 256 ≡ x
-value-back x h =
-    let a : x / 256 / 256 ≡ x / 65536 = shr-shr x 8 8 in
-    let b : x / 65536 / 256 ≡ x / 16777216 = shr-shr x 16 8 in
-    let s1 : x / 16777216 % 256 ≡ x / 16777216 = omega arith in
-    let s2 : x / 16777216 * 256 + x / 65536 % 256 ≡ x / 65536 = omega arith in
-    let s3 : x / 65536 * 256 + x / 256 % 256 ≡ x / 256 = omega arith in
-    let s4 : x / 256 * 256 + x % 256 ≡ x = omega arith in
-    rw (s1, s2, s3) s4
-
 step-back : (k : Step) (r : List ℕ) → Small k → stepIn (stepBytes k ++ r) ≡ k
-step-back k r h = λ i. record { kind = k .kind; id = k .id; value = value-back (k .value) (h .value) i }
+step-back k r h =
+    let at : Holds (stepBytes k ++ r) 4 (be32 (k .value)) = record { pre = k .kind ∷ k .id ∷ 0 ∷ 0 ∷ []; post = r; long = refl; whole = refl } in
+    λ i. record { kind = k .kind; id = k .id; value = holds-u32 (stepBytes k ++ r) 4 (k .value) (h .value) at i }
 
 steps-back : (ks : List Step) → Smalls ks → stepsIn (length ks) (stepsBytes ks) ≡ ks
-unfolding stepsIn stepsBytes Smalls
+unfolding stepsIn stepsBytes Smalls bytesOf
 steps-back [] h = refl
 steps-back (k ∷ ks) h = λ i. step-back k (stepsBytes ks) (h .0) i ∷ steps-back ks (h .1) i
 
 zeros-back : (ks : List Step) → allZerosIn (length ks) (stepsBytes ks) ≡ true
-unfolding allZerosIn stepsBytes
+unfolding allZerosIn stepsBytes bytesOf
 zeros-back [] = refl
 zeros-back (k ∷ ks) = zeros-back ks
 
-steps-length : (ks : List Step) → length (stepsBytes ks) ≡ 8 * length ks
-unfolding stepsBytes
+pub steps-length : (ks : List Step) → length (stepsBytes ks) ≡ 8 * length ks
+unfolding stepsBytes bytesOf
 steps-length [] = refl
 steps-length (k ∷ ks) = omega (arith, steps-length ks)
 
@@ -77,14 +72,20 @@ unfoldable pub Bytes : List ℕ → Type 0
 Bytes [] = Unit {0}
 Bytes (x ∷ l) = (x < 256) × Bytes l
 
-module _ (a b c d : ℕ) (ha : a < 256) (hb : b < 256) (hc : c < 256) (hd : d < 256) where
-  bytes-held : bytes4 (((a * 256 + b) * 256 + c) * 256 + d) ≡ a ∷ b ∷ c ∷ d ∷ []
-  bytes-held =
-      let ea : (((a * 256 + b) * 256 + c) * 256 + d) / 16777216 % 256 ≡ a = omega arith in
-      let eb : (((a * 256 + b) * 256 + c) * 256 + d) / 65536 % 256 ≡ b = omega arith in
-      let ec : (((a * 256 + b) * 256 + c) * 256 + d) / 256 % 256 ≡ c = omega arith in
-      let ed : (((a * 256 + b) * 256 + c) * 256 + d) % 256 ≡ d = omega arith in
-      λ i. ea i ∷ eb i ∷ ec i ∷ ed i ∷ []
+every-byte : (l : List ℕ) → Bytes l → Numbers.Bytes l
+unfolding Bytes
+every-byte l h = record { each = go l h }
+  where
+    go : (l : List ℕ) → Bytes l → (k : ℕ) → getD l k 0 < 256
+    go [] h k = omega arith
+    go (x ∷ l) h zero = h .0
+    go (x ∷ l) h (suc k) = go l (h .1) k
+
+value-held : (k i x y a b c d : ℕ) (l : List ℕ) → let t = k ∷ i ∷ x ∷ y ∷ a ∷ b ∷ c ∷ d ∷ l in Bytes t → be32 (u32At t 4) ≡ a ∷ b ∷ c ∷ d ∷ []
+value-held k i x y a b c d l h =
+    let t : List ℕ = k ∷ i ∷ x ∷ y ∷ a ∷ b ∷ c ∷ d ∷ l in
+    holds-same t (be32 (u32At t 4)) (a ∷ b ∷ c ∷ d ∷ []) 4 (length-be32 (u32At t 4)) (number-held t 4 (every-byte t h) 4 (omega arith))
+    (record { pre = k ∷ i ∷ x ∷ y ∷ []; post = l; long = refl; whole = refl })
 
 steps-held : (n : ℕ) (l : List ℕ) → Bytes l → length l ≡ 8 * n → allZerosIn n l ≡ true → stepsBytes (stepsIn n l) ≡ l
 unfolding stepsIn stepsBytes allZerosIn Bytes
@@ -103,7 +104,7 @@ steps-held (suc n) (k ∷ i ∷ x ∷ y ∷ a ∷ b ∷ c ∷ d ∷ l) h e z =
     let zs = and-eq-true-iff (eqb x 0) (eqb y 0) .0 (p .0) in
     let ex : 0 ≡ x = sym (eqb-true x 0 (zs .0)) in
     let ey : 0 ≡ y = sym (eqb-true y 0 (zs .1)) in
-    let v = bytes-held a b c d (h .1 .1 .1 .1 .0) (h .1 .1 .1 .1 .1 .0) (h .1 .1 .1 .1 .1 .1 .0) (h .1 .1 .1 .1 .1 .1 .1 .0) in
+    let v = value-held k i x y a b c d l h in
     let r = steps-held n l (h .1 .1 .1 .1 .1 .1 .1 .1) (omega arith) (p .1) in
     λ j. k ∷ i ∷ ex j ∷ ey j ∷ (v j ++ r j)
 

@@ -4,6 +4,7 @@ use mathlib.Core.Path.{_≡_, refl}
 use mathlib.Core.List.{List, [], _∷_}
 use Prim.Native.Nat.{ℕ}
 use lib.Count.{ones, onesIn}
+use Rattle.rows.specs.Bytes.{numberAt}
 use Rattle.rules.specs.Sets.{member, reaches, inside, clash, some, same, plus, unite, heard, above, those}
 use Rattle.rules.specs.Stamps.{sign, compared, greater, sameStamp, greatest}
 use Rattle.rules.specs.Messages.{copies, outgoing}
@@ -22,7 +23,7 @@ unfolding crashedRelay crashedDesk ones onesIn inside clash some same plus unite
 recorded mask ks = printed mask ks
 
 unfoldable pub rehearsal-of : List ℕ → List ℕ
-unfolding rehearsed sheetIn stepsIn allZerosIn recorded
+unfolding rehearsed sheetIn stepsIn numberAt allZerosIn recorded
 rehearsal-of b = rehearsed b
 
 -- document 01's worked example, byte by byte

@@ -1,32 +1,26 @@
 -- "Sheets": bytes to a mask and steps, and back. Assumes nothing.
 use mathlib.Core.Bool.{Bool, true, not}
 use mathlib.Core.List.{List, [], _∷_, _++_}
-use Prim.Native.Nat.{ℕ, zero, suc, _+_, _-_, _*_, _/_, _%_}
+use Prim.Native.Nat.{ℕ, zero, suc, _+_, _-_, _/_, _%_}
 use lib.Dec.{eqb, ltb}
 use lib.ListN.{length, getD, drop}
+use Rattle.rows.specs.Bytes.{be32, u32At}
 use Rattle.rules.specs.Sets.{if_then_else_, _&&_, _||_}
 use Rattle.rules.specs.Steps.{Step}
-
--- "all numbers high byte first": the number in four bytes from i on, and the four bytes of a number
-abbrev pub number4 : List ℕ → ℕ → ℕ
-number4 b i = ((getD b i 0 * 256 + getD b (1 + i) 0) * 256 + getD b (2 + i) 0) * 256 + getD b (3 + i) 0
-
-abbrev pub bytes4 : ℕ → List ℕ
-bytes4 x = x / 16777216 % 256 ∷ x / 65536 % 256 ∷ x / 256 % 256 ∷ x % 256 ∷ []
 
 -- "the three bytes `ARS`, version 0x0001"
 abbrev pub mark : List ℕ
 mark = 65 ∷ 82 ∷ 83 ∷ 0 ∷ 1 ∷ []
 
--- "8 bytes a step: kind, id, two zero bytes, value"
+-- "8 bytes a step: kind, id, two zero bytes, value", "all numbers high byte first"
 abbrev pub stepIn : List ℕ → Step
-stepIn b = record { kind = getD b 0 0; id = getD b 1 0; value = number4 b 4 }
+stepIn b = record { kind = getD b 0 0; id = getD b 1 0; value = u32At b 4 }
 
 abbrev pub zerosIn : List ℕ → Bool
 zerosIn b = eqb (getD b 2 0) 0 && eqb (getD b 3 0) 0
 
 abbrev pub stepBytes : Step → List ℕ
-stepBytes k = k .kind ∷ k .id ∷ 0 ∷ 0 ∷ bytes4 (k .value)
+stepBytes k = k .kind ∷ k .id ∷ 0 ∷ 0 ∷ be32 (k .value)
 
 -- "It is read from the front one step at a time."
 unfoldable pub stepsIn : ℕ → List ℕ → List Step

@@ -10,7 +10,7 @@ use lib.Seq.{getD-drop, drop-drop}
 use borrow.Author.Tests.{le-leb, lt-leb, not-true, not-false}
 use Rattle.rows.specs.Bytes.{u32At, numberAt}
 use Rattle.rows.specs.Tests.{all, allZero}
-use Rattle.rules.specs.Sheets.{number4, stepIn, zerosIn, allZerosIn}
+use Rattle.rules.specs.Sheets.{stepIn, zerosIn, allZerosIn}
 use Rattle.sheet.specs.declared.Found.the-variants.{At, End}
 use Rattle.sheet.specs.Reading.{stepAt, afterOf}
 
@@ -38,9 +38,9 @@ module _ (b : List ℕ) (at : ℕ) where
   pub id-at : getD b (at + 1) 0 ≡ getD (drop at b) 1 0
   id-at = rw getD-drop
 
-  pub value-at : u32At b (at + 4) ≡ number4 (drop at b) 4
+  pub value-at : u32At b (at + 4) ≡ u32At (drop at b) 4
   unfolding numberAt
-  value-at = simp (getD-drop, add-assoc, add-zero) (omega arith)
+  value-at = simp (getD-drop, add-assoc, add-zero)
 
   zeros-at : allZero b (at + 2) 2 ≡ zerosIn (drop at b)
   unfolding allZero all

@@ -2,20 +2,20 @@
 use mathlib.Core.Path.{_≡_, refl, sym, ap, _∙_}
 use mathlib.Core.Bool.{true, false, _||_}
 use mathlib.Core.List.{List, [], _∷_, _++_}
-use Prim.Native.Nat.{ℕ, zero, suc, _+_, _-_, _*_, _/_, _≤_, _<_, min}
+use Prim.Native.Nat.{ℕ, zero, suc, _+_, _-_, _*_, _≤_, _<_, min}
 use native.Mathlib.Nat.{zero-add}
 use native.Mathlib.Numerals.{add-one}
 use native.Mathlib.Omega.{arith}
 use lib.Dec.{eqb, ltb}
 use lib.ListN.{length, getD, drop, length-drop, drop-of-length-le}
-use lib.Pow.{shr-shr}
 use lib.Seq.{drop-cons}
 use borrow.Author.Tests.{ltb-false, eqb-false, lt-ltb, le-ltb, ne-eqb}
 use Rattle.views.proofs.Truth.{neither-true}
 use Rattle.rows.specs.Bytes.{splice, placed, bytesOf, be16, be32}
 use Rattle.rows.proofs.Laws.{placed-length, placed-nil, placed-more, placed-fits}
 use Rattle.rules.specs.declared.Step.{Step}
-use Rattle.rules.specs.Sheets.{bytes4, mark, stepBytes, stepsBytes, sheetBytes, Written as Ruling, bad-sheet, no-room, wrote, number, written}
+use Rattle.rules.proofs.Sheets.{steps-length}
+use Rattle.rules.specs.Sheets.{mark, stepBytes, stepsBytes, sheetBytes, Written as Ruling, bad-sheet, no-room, wrote, number, written}
 use Rattle.sheet.specs.declared.Written.the-variants.{Done, BadSheet, NoRoom}
 use Rattle.sheet.specs.Writing.{listed, numberOf, answerOf, writtenOf, leftOf}
 
@@ -37,23 +37,11 @@ listed-at i (k ∷ ks) (n ∷ ids) [] d h = absurd (omega arith)
 listed-at zero (k ∷ ks) (n ∷ ids) (v ∷ vs) d h = refl
 listed-at (suc i) (k ∷ ks) (n ∷ ids) (v ∷ vs) d h = listed-at i ks ids vs d (omega arith)
 
-steps-length : (ks : List Step) → length (stepsBytes ks) ≡ 8 * length ks
-unfolding stepsBytes
-steps-length [] = refl
-steps-length (k ∷ ks) = omega (arith, steps-length ks)
-
 -- ---- the bytes of a step, as they are written
-
-value-bytes : (x : ℕ) → be32 x ≡ bytes4 x
-unfolding bytesOf
-value-bytes x =
-    let a : x / 256 / 256 ≡ x / 65536 = shr-shr x 8 8 in
-    let b : x / 65536 / 256 ≡ x / 16777216 = shr-shr x 16 8 in
-    rw (a, b)
 
 pub step-bytes : (k : Step) → (((k .kind ∷ []) ++ (k .id ∷ [])) ++ be16 0) ++ be32 (k .value) ≡ stepBytes k
 unfolding bytesOf
-step-bytes k = ap (λ (t : List ℕ). k .kind ∷ k .id ∷ 0 ∷ 0 ∷ t) (value-bytes (k .value))
+step-bytes k = refl
 
 -- ---- the loop: with the steps from the i-th on written from o on, l is l₀ with all of them
 
@@ -80,6 +68,7 @@ rest-next i steps d h = rw (drop-cons steps i d h, add-one i)
 
 left-step : {steps : List Step} {l₀ l : List ℕ} {o i : ℕ} (t : List ℕ) (k : Step) → Left steps l₀ l o i → i < length steps → 6 + 8 * length steps ≤ length l₀
     → getD steps i k ≡ k → t ≡ placed l o (stepBytes k) → Left steps l₀ t (o + 8) (i + 1)
+unfolding bytesOf
 left-step {steps} {l₀} {l} {o} {i} t k h below room e f =
     let fit : o + (8 + length (rest (i + 1) steps)) ≤ length l = omega (arith, h .at, h .long, rest-length (i + 1) steps) in
     let both = placed-more l (stepBytes k) (rest (i + 1) steps) o fit in
