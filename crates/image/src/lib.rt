@@ -1,9 +1,9 @@
 // The world's parts in the rows of a lent buffer: each read, and each written over its row. Document 01, "The world"; the layout is rules' Image. Every
 // function is total: past the end a buffer reads zero, and a row that does not fit wholly is not written.
 ghost use mathlib.Core.Path.{_≡_};
-ghost use mathlib.Core.List.{[]};
-ghost use Prim.Native.Nat.{min};
-ghost use Rattle.rows.specs.Bytes.{placed};
+ghost use mathlib.Core.List.{[], _++_};
+ghost use Prim.Native.Nat.{_+_, min};
+ghost use Rattle.rows.specs.Bytes.{placed, fieldsOf, sum};
 ghost use Rattle.views.specs.Row.{viewsOf};
 ghost use Rattle.rules.specs.Image.{flag, sequenceBytes, sequenceAt, pairBytes, pairAt, headBytes, generatorBytes, generatorAt};
 ghost use Rattle.rules.specs.Image.{transferBytes, transferAt, phaseNumber, phaseOf, deskBytes, deskAt, rowBytes, rowAt};
@@ -63,6 +63,20 @@ pub fn put_sequence(s: &mut [u8], at: usize, q: Sequence)
     rows::put_byte(s, at + 30, n as u8);
 }
 
+// A row of 80 bytes: numbers, from byte n on a sequence, and numbers.
+fn put_around(s: &mut [u8], at: usize, n: usize, widths: &[u8], xs: &[u32], q: Sequence, last: &[u8], ys: &[u32])
+    requires { ⌜ sum (now widths) ≡ n ⌝ }
+    requires { ⌜ n + 31 + sum (now last) ≡ 80 ⌝ }
+    ensures { λ _. ⌜ now (s .exit) ≡ placed (now (s .entry)) at ((fieldsOf (now (widths .entry)) (now (xs .entry)) ++ sequenceBytes (viewsOf q)) ++ fieldsOf (now (last .entry)) (now (ys .entry))) ⌝ }
+{
+    if !rows::has_room(s.len(), at, 80) {
+        return;
+    }
+    rows::put_fields(s, at, widths, xs);
+    put_sequence(s, at + n, q);
+    rows::put_fields(s, at + (n + 31), last, ys);
+}
+
 pub fn pair_at(s: &[u8], at: usize) -> Pair
     ensures { λ r. ⌜ r ≡ pairAt (now (s .entry)) at ⌝ }
 {
@@ -79,12 +93,9 @@ pub fn pair_at(s: &[u8], at: usize) -> Pair
 pub fn put_pair(s: &mut [u8], at: usize, p: Pair)
     ensures { λ _. ⌜ now (s .exit) ≡ placed (now (s .entry)) at (pairBytes p) ⌝ }
 {
-    if !rows::has_room(s.len(), at, 7) {
-        return;
-    }
-    rows::put_u16(s, at, p.stamp.count);
-    rows::put_byte(s, at + 2, p.stamp.desk);
-    rows::put_u32(s, at + 3, p.value);
+    let widths = [2u8, 1, 4];
+    let xs = [p.stamp.count as u32, p.stamp.desk as u32, p.value];
+    rows::put_fields(s, at, &widths, &xs);
 }
 
 pub fn head_at(s: &[u8], at: usize) -> Head
@@ -112,18 +123,20 @@ pub fn head_at(s: &[u8], at: usize) -> Head
 pub fn put_head(s: &mut [u8], at: usize, h: Head)
     ensures { λ _. ⌜ now (s .exit) ≡ placed (now (s .entry)) at (headBytes (relayOf h [] [])) ⌝ }
 {
-    if !rows::has_room(s.len(), at, 64) {
-        return;
-    }
     let holds = h.holds;
-    put_flag(s, at, h.alive);
-    put_flag(s, at + 1, h.entered);
-    put_flag(s, at + 2, h.active);
-    rows::put_u16(s, at + 3, h.view);
-    rows::put_u16(s, at + 5, h.known);
-    rows::put_u16(s, at + 7, h.pending);
-    put_pair(s, at + 9, holds);
-    rows::clear(s, at + 16, 48);
+    let widths = [1u8, 1, 1, 2, 2, 2, 2, 1, 4, 48];
+    let xs = [
+        h.alive as u32,
+        h.entered as u32,
+        h.active as u32,
+        h.view as u32,
+        h.known as u32,
+        h.pending as u32,
+        holds.stamp.count as u32,
+        holds.stamp.desk as u32,
+        holds.value,
+    ];
+    rows::put_fields(s, at, &widths, &xs);
 }
 
 pub fn notes_at(s: &[u8], at: usize) -> Notes
@@ -213,18 +226,19 @@ pub fn transfer_at(s: &[u8], at: usize) -> Transfer
 pub fn put_transfer(s: &mut [u8], at: usize, t: Transfer)
     ensures { λ _. ⌜ now (s .exit) ≡ placed (now (s .entry)) at (transferBytes (transferOf t)) ⌝ }
 {
-    if !rows::has_room(s.len(), at, 80) {
-        return;
-    }
     let sequence = t.sequence;
     let best = t.best;
-    rows::put_u16(s, at, t.old);
-    rows::put_u16(s, at + 2, t.new);
-    put_sequence(s, at + 4, sequence);
-    rows::put_byte(s, at + 35, t.senders);
-    put_pair(s, at + 36, best);
-    rows::put_u16(s, at + 43, t.gathered);
-    rows::clear(s, at + 45, 35);
+    let widths = [2u8, 2];
+    let xs = [t.old as u32, t.new as u32];
+    let last = [1u8, 2, 1, 4, 2, 35];
+    let ys = [
+        t.senders as u32,
+        best.stamp.count as u32,
+        best.stamp.desk as u32,
+        best.value,
+        t.gathered as u32,
+    ];
+    put_around(s, at, 4, &widths, &xs, sequence, &last, &ys);
 }
 
 fn phase_number(p: Phase) -> u8
@@ -284,22 +298,26 @@ pub fn desk_at(s: &[u8], at: usize) -> Desk
 pub fn put_desk(s: &mut [u8], at: usize, d: Desk)
     ensures { λ _. ⌜ now (s .exit) ≡ placed (now (s .entry)) at (deskBytes d) ⌝ }
 {
-    if !rows::has_room(s.len(), at, 64) {
-        return;
-    }
     let phase = d.phase;
     let number = phase_number(phase);
     let holds = d.holds;
     let best = d.best;
-    put_flag(s, at, d.alive);
-    rows::put_byte(s, at + 1, number);
-    rows::put_u16(s, at + 2, d.view);
-    rows::put_u16(s, at + 4, d.tries);
-    put_pair(s, at + 6, holds);
-    rows::put_byte(s, at + 13, d.replied);
-    put_pair(s, at + 14, best);
-    put_flag(s, at + 21, d.agreed);
-    rows::clear(s, at + 22, 42);
+    let widths = [1u8, 1, 2, 2, 2, 1, 4, 1, 2, 1, 4, 1, 42];
+    let xs = [
+        d.alive as u32,
+        number as u32,
+        d.view as u32,
+        d.tries as u32,
+        holds.stamp.count as u32,
+        holds.stamp.desk as u32,
+        holds.value,
+        d.replied as u32,
+        best.stamp.count as u32,
+        best.stamp.desk as u32,
+        best.value,
+        d.agreed as u32,
+    ];
+    rows::put_fields(s, at, &widths, &xs);
 }
 
 pub fn message_at(s: &[u8], at: usize) -> Message
@@ -330,20 +348,24 @@ pub fn message_at(s: &[u8], at: usize) -> Message
 pub fn put_message(s: &mut [u8], at: usize, m: Message)
     ensures { λ _. ⌜ now (s .exit) ≡ placed (now (s .entry)) at (rowBytes (messageRow m)) ⌝ }
 {
-    if !rows::has_room(s.len(), at, 80) {
-        return;
-    }
     let b = m.body;
     let sequence = b.sequence;
     let pair = b.pair;
-    rows::put_byte(s, at, b.kind);
-    rows::put_byte(s, at + 1, m.from);
-    rows::put_byte(s, at + 2, m.to);
-    rows::put_u16(s, at + 3, b.first);
-    rows::put_u16(s, at + 5, b.second);
-    rows::put_u16(s, at + 7, b.tries);
-    put_sequence(s, at + 9, sequence);
-    put_pair(s, at + 40, pair);
-    rows::put_u16(s, at + 47, b.updates);
-    rows::clear(s, at + 49, 31);
+    let widths = [1u8, 1, 1, 2, 2, 2];
+    let xs = [
+        b.kind as u32,
+        m.from as u32,
+        m.to as u32,
+        b.first as u32,
+        b.second as u32,
+        b.tries as u32,
+    ];
+    let last = [2u8, 1, 4, 2, 31];
+    let ys = [
+        pair.stamp.count as u32,
+        pair.stamp.desk as u32,
+        pair.value,
+        b.updates as u32,
+    ];
+    put_around(s, at, 9, &widths, &xs, sequence, &last, &ys);
 }

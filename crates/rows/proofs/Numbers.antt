@@ -3,10 +3,14 @@
 use mathlib.Core.Path.{_≡_, refl, ap}
 use mathlib.Core.List.{List, [], _∷_, _++_}
 use Prim.Native.Nat.{ℕ, zero, suc, _+_, _*_, _^_, _/_, _%_, _≤_, _<_}
+use native.Mathlib.Numerals.{add-one}
 use native.Mathlib.Nat.{add-assoc, add-zero, pow-zero, pow-suc}
 use native.Mathlib.Omega.{arith}
-use lib.ListN.{length, getD, length-append, List·getD-eq-default}
-use Rattle.rows.specs.Bytes.{bytesOf, numberAt, be16, be32, u16At, u32At, run, zeros}
+use mir.Syntax.{w8}
+use mir.Val.{Fits}
+use lib.ListN.{length, getD, drop, length-append, drop-of-length-le, List·getD-eq-default}
+use lib.Seq.{drop-cons, getD-drop, drop-drop}
+use Rattle.rows.specs.Bytes.{bytesOf, fieldsOf, sum, numberAt, be16, be32, u16At, u32At, run, zeros}
 use Rattle.rows.proofs.Laws.{Holds, holds-self, holds-left, holds-right, holds-byte}
 use Rattle.rows.proofs.Held.{holds-nil, holds-one, holds-append}
 
@@ -54,6 +58,43 @@ pub zeros-number : (n : ℕ) → bytesOf n 0 ≡ zeros n
 unfolding bytesOf zeros run
 zeros-number zero = refl
 zeros-number (suc n) = ap (λ (l : List ℕ). l ++ (0 ∷ [])) (zeros-number n)
+
+-- ---- fields: the first, those from the i-th on, and how long they are
+
+pub byte-number : {x : ℕ} → Fits w8 x → bytesOf 1 x ≡ x ∷ []
+unfolding bytesOf
+byte-number {x} small = let e : x % 256 ≡ x = omega arith in rw e
+
+pub fields-length : (ws xs : List ℕ) → length (fieldsOf ws xs) ≡ sum ws
+unfolding fieldsOf
+fields-length [] xs = refl
+fields-length (w ∷ ws) xs = simp length-append (omega (arith, length-bytesOf w (getD xs 0 0), fields-length ws (drop 1 xs)))
+
+-- the fields of ws before the i-th, laid from o on, end at p
+pub record Ends (ws : List ℕ) (o p i : ℕ) : Type 0 where
+  pub is : p + sum (drop i ws) ≡ o + sum ws
+
+pub ends-none : {ws : List ℕ} {o : ℕ} → Ends ws o o 0
+ends-none = record { is = refl }
+
+module _ {ws : List ℕ} {o p i : ℕ} (e : Ends ws o p i) where
+  module _ {w : ℕ} (h : i < length ws) (q : w ≡ getD ws i 0) where
+    next : sum (drop i ws) ≡ w + sum (drop (i + 1) ws)
+    next = rw (add-one, drop-cons ws i 0 h, q)
+
+    pub ends-more : Ends ws o (p + w) (i + 1)
+    ends-more = record { is = omega (arith, next, e .is) }
+
+    pub ends-inside : p + w ≤ o + sum ws
+    ends-inside = omega (arith, next, e .is)
+
+  pub ends-all : length ws ≤ i → p ≡ o + sum ws
+  ends-all h = omega (arith, ap sum (drop-of-length-le ws h), e .is)
+
+pub fields-next : (ws xs : List ℕ) (i : ℕ) → i < length ws
+    → fieldsOf (drop i ws) (drop i xs) ≡ bytesOf (getD ws i 0) (getD xs i 0) ++ fieldsOf (drop (i + 1) ws) (drop (i + 1) xs)
+unfolding fieldsOf
+fields-next ws xs i h = rw (drop-cons ws i 0 h, fieldsOf, getD-drop i xs 0 0, drop-drop 1 i xs, add-zero i, add-one i)
 
 -- ---- from bytes
 

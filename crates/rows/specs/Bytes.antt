@@ -19,6 +19,11 @@ unfoldable pub bytesOf : ℕ → ℕ → List ℕ
 bytesOf zero x = []
 bytesOf (suc n) x = bytesOf n (x / 256) ++ (x % 256 ∷ [])
 
+-- numbers one after another, each in as many bytes as its width says; a number that xs lacks is 0
+unfoldable pub fieldsOf : List ℕ → List ℕ → List ℕ
+fieldsOf [] xs = []
+fieldsOf (w ∷ ws) xs = bytesOf w (getD xs 0 0) ++ fieldsOf ws (drop 1 xs)
+
 -- the number in the n bytes of l from o on, "high byte first"
 unfoldable pub numberAt : ℕ → List ℕ → ℕ → ℕ
 numberAt zero l o = 0

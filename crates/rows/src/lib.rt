@@ -5,7 +5,7 @@ ghost use mathlib.Core.List.{[], _∷_};
 ghost use Prim.Native.Nat.{_+_};
 ghost use lib.Dec.{leb};
 ghost use lib.ListN.{getD};
-ghost use Rattle.rows.specs.Bytes.{placed, bytesOf, be16, be32, u16At, u32At, zeros};
+ghost use Rattle.rows.specs.Bytes.{placed, bytesOf, fieldsOf, sum, be16, be32, u16At, u32At, zeros};
 ghost use Rattle.rows.specs.Tests.{allZero};
 
 // Room for n bytes at `at`; the sum itself could pass the largest usize.
@@ -68,6 +68,49 @@ pub fn clear(s: &mut [u8], at: usize, n: usize)
     ensures { λ _. ⌜ now (s .exit) ≡ placed (now (s .entry)) at (zeros n) ⌝ }
 {
     put(s, at, n, 0);
+}
+
+fn number_at(xs: &[u32], i: usize) -> u32
+    ensures { λ r. ⌜ r ≡ getD (now (xs .entry)) i 0 ⌝ }
+{
+    if xs.len() <= i {
+        return 0;
+    }
+    xs[i]
+}
+
+// Room for all of them at `at`; the sum of the widths itself could pass the largest usize.
+fn fields_fit(len: usize, at: usize, widths: &[u8]) -> bool
+    ensures { λ r. ⌜ r ≡ leb (at + sum (now (widths .entry))) len ⌝ }
+{
+    let mut end = at;
+    let mut i = 0;
+    while i < widths.len() {
+        let w = byte_at(widths, i) as usize;
+        if !has_room(len, end, w) {
+            return false;
+        }
+        end += w;
+        i += 1;
+    }
+    end <= len
+}
+
+pub fn put_fields(s: &mut [u8], at: usize, widths: &[u8], xs: &[u32])
+    ensures { λ _. ⌜ now (s .exit) ≡ placed (now (s .entry)) at (fieldsOf (now (widths .entry)) (now (xs .entry))) ⌝ }
+{
+    if !fields_fit(s.len(), at, widths) {
+        return;
+    }
+    let mut p = at;
+    let mut i = 0;
+    while i < widths.len() {
+        let w = byte_at(widths, i) as usize;
+        let x = number_at(xs, i);
+        put(s, p, w, x);
+        p += w;
+        i += 1;
+    }
 }
 
 pub fn read_u16(s: &[u8], at: usize) -> u16

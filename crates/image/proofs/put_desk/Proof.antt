@@ -1,83 +1,27 @@
 -- `image::put_desk` meets its contract. Assumes nothing.
 use mathlib.Core.Path.{refl, ap, _∙_}
-use mathlib.Core.List.{append-assoc, append-nil}
-use lib.ListN.{length}
-use Rattle.rows.specs.Bytes.{cat}
-use Rattle.rows.proofs.Laws.{placed-length, room, no-room, put-first, put-then}
-use Rattle.rows.proofs.Numbers.{length-be16}
-use Rattle.rows.proofs.Tables.{length-zeros}
-use Rattle.rules.specs.Image.{deskBytes}
-use Rattle.image.proofs.Room.{Room, part, index}
-use Rattle.image.proofs.Widths.{length-desk, length-pair}
+use mir.Syntax.{w8}
+use mir.Val.{Fits}
+use borrow.Author.Needs.{needs}
+use Rattle.rows.proofs.Numbers.{byte-number}
+use Rattle.rules.specs.Image.{byte, deskBytes}
+use Rattle.image.proofs.Fields.{flag-number, blank, piece, pair, laid}
 use Rattle.image.proofs.put_desk.Statement.{statement}
 use Rattle.image.proofs.put_desk.Tie as tie
 
 returns : tie.Need-returns
-returns c = no-room _ _ _ (length-desk _) (c .before .has-room .ensures) (c .if1 .taken)
-
-space : (c : tie.Else1) → let a = c .before .before .before .args in Room (a .s .now) (a .at) 64
-space c = record { fits = room (c .before .has-room .ensures) (c .if1 .left); small = c .before .before .before .good .0 .0 }
-
--- back from each write to the test of the room
-abbrev e2 : tie.After-slice-known2 → tie.Else1
-e2 c = c .before .before .before .before .before .before .before
-
-abbrev e3 : tie.After-slice-known3 → tie.Else1
-e3 c = e2 (c .before .before .before .before)
-
-abbrev e4 : tie.After-slice-known4 → tie.Else1
-e4 c = e3 (c .before .before .before .before)
-
-abbrev e5 : tie.After-slice-known5 → tie.Else1
-e5 c = e4 (c .before .before .before .before)
-
-abbrev e6 : tie.After-slice-known6 → tie.Else1
-e6 c = e5 (c .before .before .before .before)
-
-abbrev e7 : tie.After-slice-known7 → tie.Else1
-e7 c = e6 (c .before .before .before .before)
-
-abbrev e8 : tie.After-slice-known8 → tie.Else1
-e8 c = e7 (c .before .before .before .before)
-
-abbrev e9 : tie.After-slice-known9 → tie.Else1
-e9 c = e8 (c .before .before .before .before)
-
-returns-2 : tie.Need-returns-2
-unfolding deskBytes cat
-returns-2 c =
-    let k9 = c .before .before in
-    let k8 = k9 .before .before .before .before in
-    let k7 = k8 .before .before .before .before in
-    let k6 = k7 .before .before .before .before in
-    let k5 = k6 .before .before .before .before in
-    let k4 = k5 .before .before .before .before in
-    let k3 = k4 .before .before .before .before in
-    let k2 = k3 .before .before .before .before in
-    let k1 = k2 .before .before .before .before in
-    let e = e2 (k2 .before .before) in
-    let fit = space e in
-    let p1 = put-first _ _ refl (k1 .put-flag .ensures) in
-    let p2 = put-then _ _ p1 refl (part _ fit refl) (rw (k1 .before .before .before .before .phase-number .ensures) at (k2 .put-byte .ensures)) in
-    let p3 = put-then _ _ p2 (length-be16 _) (part _ fit refl) (k3 .put-u16 .ensures) in
-    let p4 = put-then _ _ p3 (length-be16 _) (part _ fit refl) (k4 .put-u162 .ensures) in
-    let p5 = put-then _ _ p4 (length-pair _) (part _ fit refl) (k5 .put-pair .ensures) in
-    let p6 = put-then _ _ p5 refl (part _ fit refl) (k6 .put-byte2 .ensures) in
-    let p7 = put-then _ _ p6 (length-pair _) (part _ fit refl) (k7 .put-pair2 .ensures) in
-    let p8 = put-then _ _ p7 refl (part _ fit refl) (k8 .put-flag2 .ensures) in
-    let p9 = put-then _ _ p8 (length-zeros _) (part _ fit refl) (k9 .clear .ensures) in
-    p9 .is ∙ simp (append-assoc, append-nil)
+unfolding deskBytes
+returns c =
+    let d = c .before .before .before .before .before .before .struct-known9 .given in
+    let phase = c .before .before .before .before .before .before .before .before .before .before .before .before .before .before .before .before .before in
+    let number : Fits w8 (phase .phase-number .result) = search needs in
+    laid _ _ (c .before .before .put-fields .ensures)
+    (piece (simp flag-number) (piece (byte-number number ∙ ap byte (phase .phase-number .ensures)) (piece refl (piece refl
+    (pair _ (d .1 .1 .1 .1 .0 .0 .1 .0) (piece (byte-number (d .1 .1 .1 .1 .1 .0)) (pair _ (d .1 .1 .1 .1 .1 .1 .0 .0 .1 .0) (piece (simp flag-number) blank))))))))
 
 pub put-desk-spec : {M : Type 1} → statement M
 put-desk-spec =
     tie.close
-    (tie.spec (λ c κs. tt) returns (λ c κs. tt) (λ c κs. tt)
-    (λ c. index _ (space (e2 (c .before))) refl) (λ c κs. tt)
-    (λ c. index _ (space (e3 (c .before))) refl) (λ c κs. tt)
-    (λ c. index _ (space (e4 (c .before))) refl) (λ c κs. tt)
-    (λ c. index _ (space (e5 (c .before))) refl) (λ c κs. tt)
-    (λ c. index _ (space (e6 (c .before))) refl) (λ c κs. tt)
-    (λ c. index _ (space (e7 (c .before))) refl) (λ c κs. tt)
-    (λ c. index _ (space (e8 (c .before))) refl) (λ c κs. tt)
-    (λ c. index _ (space (e9 (c .before))) refl) (λ c κs. tt)
-    (λ c. ap length (returns-2 c) ∙ placed-length _ _ _) returns-2)
+    (tie.spec
+    (λ c κs. search needs) (λ c. search needs) (λ c. search needs) (λ c. search needs) (λ c. search needs) (λ c. search needs) (λ c. search needs) (λ c. search needs) (λ c. search needs) (λ c. search needs) (λ c. search needs) (λ c. search needs) (λ c. search needs) (λ c κs. search needs) (λ c. search needs)
+    returns)

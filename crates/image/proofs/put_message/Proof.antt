@@ -1,90 +1,25 @@
 -- `image::put_message` meets its contract. Assumes nothing.
-use mathlib.Core.Path.{refl, ap, _∙_}
-use mathlib.Core.List.{append-assoc, append-nil}
-use lib.ListN.{length}
-use Rattle.rows.specs.Bytes.{cat}
-use Rattle.rows.proofs.Laws.{placed-length, room, no-room, put-first, put-then}
-use Rattle.rows.proofs.Numbers.{length-be16}
-use Rattle.rows.proofs.Tables.{length-zeros}
+use mathlib.Core.Path.{refl}
+use borrow.Author.Needs.{needs}
+use Rattle.rows.proofs.Numbers.{byte-number}
 use Rattle.rules.specs.Image.{rowBytes}
 use Rattle.image.specs.Parts.{addressedRow, messageRow}
-use Rattle.image.proofs.Room.{Room, part, index}
-use Rattle.image.proofs.Widths.{length-pair, length-row, length-sequence}
+use Rattle.image.proofs.Fields.{none, blank, piece, pair, laid-around}
 use Rattle.image.proofs.put_message.Statement.{statement}
 use Rattle.image.proofs.put_message.Tie as tie
 
 returns : tie.Need-returns
-returns c = no-room _ _ _ (length-row _) (c .before .has-room .ensures) (c .if1 .taken)
-
-space : (c : tie.Else1) → let a = c .before .before .before .args in Room (a .s .now) (a .at) 80
-space c = record { fits = room (c .before .has-room .ensures) (c .if1 .left); small = c .before .before .before .good .0 .0 }
-
--- back from each write to the test of the room
-abbrev e2 : tie.After-slice-known2 → tie.Else1
-e2 c = c .before .before .before .before .before .before .before
-
-abbrev e3 : tie.After-slice-known3 → tie.Else1
-e3 c = e2 (c .before .before .before .before)
-
-abbrev e4 : tie.After-slice-known4 → tie.Else1
-e4 c = e3 (c .before .before .before .before)
-
-abbrev e5 : tie.After-slice-known5 → tie.Else1
-e5 c = e4 (c .before .before .before .before)
-
-abbrev e6 : tie.After-slice-known6 → tie.Else1
-e6 c = e5 (c .before .before .before .before)
-
-abbrev e7 : tie.After-slice-known7 → tie.Else1
-e7 c = e6 (c .before .before .before .before)
-
-abbrev e8 : tie.After-slice-known8 → tie.Else1
-e8 c = e7 (c .before .before .before .before)
-
-abbrev e9 : tie.After-slice-known9 → tie.Else1
-e9 c = e8 (c .before .before .before .before)
-
-abbrev e10 : tie.After-slice-known10 → tie.Else1
-e10 c = e9 (c .before .before .before .before)
-
-returns-2 : tie.Need-returns-2
-unfolding rowBytes messageRow addressedRow cat
-returns-2 c =
-    let k10 = c .before .before in
-    let k9 = k10 .before .before .before .before in
-    let k8 = k9 .before .before .before .before in
-    let k7 = k8 .before .before .before .before in
-    let k6 = k7 .before .before .before .before in
-    let k5 = k6 .before .before .before .before in
-    let k4 = k5 .before .before .before .before in
-    let k3 = k4 .before .before .before .before in
-    let k2 = k3 .before .before .before .before in
-    let k1 = k2 .before .before .before .before in
-    let e = e2 (k2 .before .before) in
-    let fit = space e in
-    let p1 = put-first _ _ refl (k1 .put-byte .ensures) in
-    let p2 = put-then _ _ p1 refl (part _ fit refl) (k2 .put-byte2 .ensures) in
-    let p3 = put-then _ _ p2 refl (part _ fit refl) (k3 .put-byte3 .ensures) in
-    let p4 = put-then _ _ p3 (length-be16 _) (part _ fit refl) (k4 .put-u16 .ensures) in
-    let p5 = put-then _ _ p4 (length-be16 _) (part _ fit refl) (k5 .put-u162 .ensures) in
-    let p6 = put-then _ _ p5 (length-be16 _) (part _ fit refl) (k6 .put-u163 .ensures) in
-    let p7 = put-then _ _ p6 (length-sequence _) (part _ fit refl) (k7 .put-sequence .ensures) in
-    let p8 = put-then _ _ p7 (length-pair _) (part _ fit refl) (k8 .put-pair .ensures) in
-    let p9 = put-then _ _ p8 (length-be16 _) (part _ fit refl) (k9 .put-u164 .ensures) in
-    let p10 = put-then _ _ p9 (length-zeros _) (part _ fit refl) (k10 .clear .ensures) in
-    p10 .is ∙ simp (append-assoc, append-nil)
+unfolding rowBytes messageRow addressedRow
+returns c =
+    let b = c .before .before .before .before .before .before .before .before .struct-known9 .given in
+    let m = c .before .before .before .before .before .before .before .before .before .before .before .before .before .before .struct-known3 .given in
+    laid-around _ _ _ (c .before .before .put-around .ensures)
+    (piece (byte-number (b .0)) (piece (byte-number (m .0)) (piece (byte-number (m .1 .0)) (piece refl (piece refl (piece refl none))))))
+    (pair _ (b .1 .1 .1 .1 .1 .0 .0 .1 .0) (piece refl blank))
 
 pub put-message-spec : {M : Type 1} → statement M
 put-message-spec =
     tie.close
-    (tie.spec (λ c κs. tt) returns (λ c κs. tt)
-    (λ c. index _ (space (e2 (c .before))) refl) (λ c κs. tt)
-    (λ c. index _ (space (e3 (c .before))) refl) (λ c κs. tt)
-    (λ c. index _ (space (e4 (c .before))) refl) (λ c κs. tt)
-    (λ c. index _ (space (e5 (c .before))) refl) (λ c κs. tt)
-    (λ c. index _ (space (e6 (c .before))) refl) (λ c κs. tt)
-    (λ c. index _ (space (e7 (c .before))) refl) (λ c κs. tt)
-    (λ c. index _ (space (e8 (c .before))) refl) (λ c κs. tt)
-    (λ c. index _ (space (e9 (c .before))) refl) (λ c κs. tt)
-    (λ c. index _ (space (e10 (c .before))) refl) (λ c κs. tt)
-    (λ c. ap length (returns-2 c) ∙ placed-length _ _ _) returns-2)
+    (tie.spec
+    (λ c. search needs) (λ c. search needs) (λ c. search needs) (λ c. search needs) (λ c. search needs) (λ c. search needs) (λ c. search needs) (λ c. search needs) (λ c. search needs) (λ c. search needs) (λ c. search needs) (λ c. search needs) (λ c. search needs) (λ c κs. search needs) (λ c. search needs)
+    returns)
