@@ -8,28 +8,9 @@ use Rattle.image.proofs.desk_at.Tie as tie
 returns : tie.Need-returns
 unfolding deskAt
 returns c =
-    let c8 = c .before in
-    let c7 = c8 .before in
-    let c6 = c7 .before in
-    let c5 = c6 .before in
-    let c4 = c5 .before in
-    let c3 = c4 .before in
-    let c2 = c3 .before in
-    let c1 = c2 .before in
-    let start = c1 .before in
+    let start = c .before .before .before .before .before .before .before .before .before in
     let a = start .before .before .args in
-    rw (
-      c1 .byte-at .ensures,
-      c3 .phase-of .ensures,
-      c2 .byte-at2 .ensures,
-      c4 .read-u16 .ensures,
-      c5 .read-u162 .ensures,
-      c6 .pair-at .ensures,
-      c7 .byte-at3 .ensures,
-      c8 .pair-at2 .ensures,
-      c .byte-at4 .ensures,
-    )
-    (desk-alike (alike-end (a .s .now) (a .at) _ (start .inside .ensures)))
+    cc (desk-alike (alike-end (a .s .now) (a .at) _ (start .inside .ensures)))
 
 pub desk-at-spec : {M : Type 1} → statement M
 desk-at-spec =

@@ -9,15 +9,9 @@ use Rattle.image.proofs.transfer_at.Tie as tie
 returns : tie.Need-returns
 unfolding transferOf transferAt
 returns c =
-    let c5 = c .before in
-    let c4 = c5 .before in
-    let c3 = c4 .before in
-    let c2 = c3 .before in
-    let c1 = c2 .before in
-    let start = c1 .before in
+    let start = c .before .before .before .before .before .before in
     let a = start .before .before .args in
-    rw (c1 .read-u16 .ensures, c2 .read-u162 .ensures, c3 .sequence-at .ensures, c4 .byte-at .ensures, c5 .pair-at .ensures, c .read-u163 .ensures)
-    (transfer-alike (alike-end (a .s .now) (a .at) _ (start .inside .ensures)))
+    cc (transfer-alike (alike-end (a .s .now) (a .at) _ (start .inside .ensures)))
 
 pub transfer-at-spec : {M : Type 1} → statement M
 transfer-at-spec =
