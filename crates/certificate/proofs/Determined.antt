@@ -19,7 +19,7 @@ use Rattle.stamps.specs.Stamp.{comparedOf, greaterOf, greatestOf, freshPair}
 use Rattle.stamps.specs.Stamp as stamps
 use Rattle.stamps.specs.declared.Stamp.{Stamp}
 use Rattle.stamps.specs.declared.Pair.{Pair}
-use Rattle.rows.specs.Bytes.{placed, be16, be32, u16At, u32At, zeros}
+use Rattle.rows.specs.Bytes.{placed, fieldsOf, be16, u16At, u32At, zeros}
 use Rattle.rows.specs.Tests.{allZero}
 use Rattle.rules.specs.Messages as rules
 use Rattle.rules.specs.State.{noRelay, noDesk}
@@ -182,11 +182,11 @@ rows-put-byte s at x = by-equation (placed s at (x ∷ []))
 pub rows-put-u16 : (s : List ℕ) (at x : ℕ) → Determined (λ b. b ≡ placed s at (be16 x))
 rows-put-u16 s at x = by-equation (placed s at (be16 x))
 
-pub rows-put-u32 : (s : List ℕ) (at x : ℕ) → Determined (λ b. b ≡ placed s at (be32 x))
-rows-put-u32 s at x = by-equation (placed s at (be32 x))
-
 pub rows-clear : (s : List ℕ) (at n : ℕ) → Determined (λ b. b ≡ placed s at (zeros n))
 rows-clear s at n = by-equation (placed s at (zeros n))
+
+pub rows-put-fields : (s : List ℕ) (at : ℕ) (widths xs : List ℕ) → Determined (λ b. b ≡ placed s at (fieldsOf widths xs))
+rows-put-fields s at widths xs = by-equation (placed s at (fieldsOf widths xs))
 
 pub rows-read-u16 : (s : List ℕ) (at : ℕ) → Determined (λ r. r ≡ u16At s at)
 rows-read-u16 s at = by-equation (u16At s at)

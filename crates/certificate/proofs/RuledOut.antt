@@ -9,7 +9,7 @@ use lib.Bits.{bitAnd, bitOr}
 use lib.Count.{ones, onesIn}
 use lib.Dec.{eqb, leb, ltb}
 use lib.IntN.{ℤ, pos, negsuc}
-use lib.ListN.{length, getD, drop, replicate}
+use lib.ListN.{length, getD, take, drop, replicate}
 use Rattle.views.specs.Choice.{if_then_else_, those}
 use Rattle.views.specs.View.{bitOf, membersOf, memberOf, quorumOf, reachesOf, withinOf, insideOf, clashOf}
 use Rattle.views.specs.Chain.{some, hasOf, lacksOf, conflictOf, sameOf, leastOf, mostOf, plusOf, unionOf, heardOf, beyondOf, aboveOf}
@@ -19,7 +19,7 @@ use Rattle.stamps.specs.Stamp.{signOf, comparedOf, greaterOf, greatestOf, fresh
 use Rattle.stamps.specs.Stamp as stamps
 use Rattle.stamps.specs.declared.Stamp.{Stamp}
 use Rattle.stamps.specs.declared.Pair.{Pair}
-use Rattle.rows.specs.Bytes.{splice, placed, bytesOf, numberAt, be16, be32, u16At, u32At, run, zeros}
+use Rattle.rows.specs.Bytes.{splice, placed, bytesOf, fieldsOf, numberAt, be16, u16At, u32At, run, zeros}
 use Rattle.rows.specs.Tests.{all, allZero}
 use Rattle.rules.specs.Desks.{cleared, begun, ended}
 use Rattle.rules.specs.Image.{phaseNumber}
@@ -320,14 +320,6 @@ pub rows-put-u16-what-fits : ¬ ((s : List ℕ) (at x : ℕ) → placed s at (x 
 unfolding placed splice bytesOf
 rows-put-u16-what-fits p = differ (entry 0) (p (0 ∷ []) 0 256) tt
 
-pub rows-put-u32-low-byte-first : ¬ ((s : List ℕ) (at x : ℕ) → placed s at (x % 256 ∷ x / 256 % 256 ∷ x / 65536 % 256 ∷ x / 16777216 ∷ []) ≡ placed s at (be32 x))
-unfolding placed splice bytesOf
-rows-put-u32-low-byte-first p = differ (entry 0) (p (0 ∷ 0 ∷ 0 ∷ 0 ∷ []) 0 1) tt
-
-pub rows-put-u32-two-bytes : ¬ ((s : List ℕ) (at x : ℕ) → placed s at (be16 x) ≡ placed s at (be32 x))
-unfolding placed splice bytesOf
-rows-put-u32-two-bytes p = differ (entry 1) (p (0 ∷ 0 ∷ 0 ∷ 0 ∷ []) 0 1) tt
-
 pub rows-clear-one-too-few : ¬ ((s : List ℕ) (at n : ℕ) → placed s at (zeros (n - 1)) ≡ placed s at (zeros n))
 unfolding placed splice run zeros
 rows-clear-one-too-few p = differ (entry 1) (p (7 ∷ 7 ∷ []) 0 2) tt
@@ -335,6 +327,14 @@ rows-clear-one-too-few p = differ (entry 1) (p (7 ∷ 7 ∷ []) 0 2) tt
 pub rows-clear-to-the-end : ¬ ((s : List ℕ) (at n : ℕ) → placed s at (zeros (length s - at)) ≡ placed s at (zeros n))
 unfolding placed splice run zeros
 rows-clear-to-the-end p = differ (entry 1) (p (7 ∷ 7 ∷ []) 0 1) tt
+
+pub rows-put-fields-the-next-number : ¬ ((s : List ℕ) (at : ℕ) (widths xs : List ℕ) → placed s at (fieldsOf widths (drop 1 xs)) ≡ placed s at (fieldsOf widths xs))
+unfolding placed splice bytesOf fieldsOf
+rows-put-fields-the-next-number p = differ (entry 0) (p (0 ∷ []) 0 (1 ∷ []) (7 ∷ [])) tt
+
+pub rows-put-fields-the-first-alone : ¬ ((s : List ℕ) (at : ℕ) (widths xs : List ℕ) → placed s at (fieldsOf (take 1 widths) xs) ≡ placed s at (fieldsOf widths xs))
+unfolding placed splice bytesOf fieldsOf
+rows-put-fields-the-first-alone p = differ (entry 1) (p (0 ∷ 0 ∷ []) 0 (1 ∷ 1 ∷ []) (7 ∷ 8 ∷ [])) tt
 
 pub rows-read-u16-low-byte-first : ¬ ((s : List ℕ) (at : ℕ) → getD s (at + 1) 0 * 256 + getD s at 0 ≡ u16At s at)
 unfolding numberAt

@@ -10,14 +10,15 @@ use world::run::Columns;
 fn put_columns(told: &mut [u8], c: Columns)
     ensures { λ _. ⌜ now (told .exit) ≡ placed (now (told .entry)) 0 (toldBytes (columnsOf c)) ⌝ }
 {
-    if !rows::has_room(told.len(), 0, 9) {
-        return;
-    }
-    rows::put_byte(told, 0, c.event);
-    rows::put_byte(told, 1, c.who);
-    rows::put_u16(told, 2, c.count);
-    rows::put_byte(told, 4, c.desk);
-    rows::put_u32(told, 5, c.last);
+    let widths = [1u8, 1, 2, 1, 4];
+    let xs = [
+        c.event as u32,
+        c.who as u32,
+        c.count as u32,
+        c.desk as u32,
+        c.last,
+    ];
+    rows::put_fields(told, 0, &widths, &xs);
 }
 
 // 1 for a good world, 0 for any other bytes.

@@ -1,5 +1,4 @@
 pub mod Ends
-pub mod Room
 pub mod Widths
 pub mod Parts
 mod Fields

@@ -2,10 +2,11 @@
 // function is total: past the end a buffer reads zero, and a row that does not fit wholly is not written.
 ghost use mathlib.Core.Path.{_≡_};
 ghost use mathlib.Core.List.{[], _++_};
-ghost use Prim.Native.Nat.{_+_, min};
+ghost use Prim.Native.Nat.{_+_, _≤_, min};
+ghost use lib.ListN.{length};
 ghost use Rattle.rows.specs.Bytes.{placed, fieldsOf, sum};
 ghost use Rattle.views.specs.Row.{viewsOf};
-ghost use Rattle.rules.specs.Image.{flag, sequenceBytes, sequenceAt, pairBytes, pairAt, headBytes, generatorBytes, generatorAt};
+ghost use Rattle.rules.specs.Image.{sequenceBytes, sequenceAt, pairBytes, pairAt, headBytes, generatorBytes, generatorAt};
 ghost use Rattle.rules.specs.Image.{transferBytes, transferAt, phaseNumber, phaseOf, deskBytes, deskAt, rowBytes, rowAt};
 ghost use Rattle.state.specs.Meaning.{notesOf, generatorOf, transferOf, relayOf};
 ghost use Rattle.image.specs.Parts.{notesBytes, notesAt, headAt, messageRow};
@@ -29,12 +30,6 @@ fn inside(len: usize, at: usize) -> usize
         return len;
     }
     at
-}
-
-fn put_flag(s: &mut [u8], at: usize, b: bool)
-    ensures { λ _. ⌜ now (s .exit) ≡ placed (now (s .entry)) at (flag b) ⌝ }
-{
-    rows::put_byte(s, at, b as u8);
 }
 
 pub fn sequence_at(s: &[u8], at: usize) -> Sequence
@@ -64,7 +59,16 @@ pub fn put_sequence(s: &mut [u8], at: usize, q: Sequence)
 }
 
 // A row of 80 bytes: numbers, from byte n on a sequence, and numbers.
-fn put_around(s: &mut [u8], at: usize, n: usize, widths: &[u8], xs: &[u32], q: Sequence, last: &[u8], ys: &[u32])
+fn put_around(
+    s: &mut [u8],
+    at: usize,
+    n: usize,
+    widths: &[u8],
+    xs: &[u32],
+    q: Sequence,
+    last: &[u8],
+    ys: &[u32],
+)
     requires { ⌜ sum (now widths) ≡ n ⌝ }
     requires { ⌜ n + 31 + sum (now last) ≡ 80 ⌝ }
     ensures { λ _. ⌜ now (s .exit) ≡ placed (now (s .entry)) at ((fieldsOf (now (widths .entry)) (now (xs .entry)) ++ sequenceBytes (viewsOf q)) ++ fieldsOf (now (last .entry)) (now (ys .entry))) ⌝ }
@@ -183,12 +187,10 @@ pub fn generator_at(s: &[u8], at: usize) -> Generator
     }
 }
 
-pub fn put_generator(s: &mut [u8], at: usize, g: Generator)
+fn put_parts(s: &mut [u8], at: usize, g: Generator)
+    requires { ⌜ at + 592 ≤ length (now s) ⌝ }
     ensures { λ _. ⌜ now (s .exit) ≡ placed (now (s .entry)) at (generatorBytes (generatorOf g)) ⌝ }
 {
-    if !rows::has_room(s.len(), at, 592) {
-        return;
-    }
     let own = g.own;
     let converged = g.converged;
     let raised = g.raised;
@@ -201,6 +203,15 @@ pub fn put_generator(s: &mut [u8], at: usize, g: Generator)
     put_notes(s, at + 95, proposals);
     put_notes(s, at + 343, convergences);
     rows::clear(s, at + 591, 1);
+}
+
+pub fn put_generator(s: &mut [u8], at: usize, g: Generator)
+    ensures { λ _. ⌜ now (s .exit) ≡ placed (now (s .entry)) at (generatorBytes (generatorOf g)) ⌝ }
+{
+    if !rows::has_room(s.len(), at, 592) {
+        return;
+    }
+    put_parts(s, at, g);
 }
 
 pub fn transfer_at(s: &[u8], at: usize) -> Transfer

@@ -120,9 +120,6 @@ module _ (l : List ℕ) (o : ℕ) (bytes : Bytes l) where
 pub length-be16 : (x : ℕ) → length (be16 x) ≡ 2
 length-be16 = length-bytesOf 2
 
-pub length-be32 : (x : ℕ) → length (be32 x) ≡ 4
-length-be32 = length-bytesOf 4
-
 pub holds-u16 : (l : List ℕ) (o x : ℕ) → x < 65536 → Holds l o (be16 x) → u16At l o ≡ x
 holds-u16 = holds-number 2
 

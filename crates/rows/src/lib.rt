@@ -5,7 +5,7 @@ ghost use mathlib.Core.List.{[], _∷_};
 ghost use Prim.Native.Nat.{_+_};
 ghost use lib.Dec.{leb};
 ghost use lib.ListN.{getD};
-ghost use Rattle.rows.specs.Bytes.{placed, bytesOf, fieldsOf, sum, be16, be32, u16At, u32At, zeros};
+ghost use Rattle.rows.specs.Bytes.{placed, bytesOf, fieldsOf, sum, be16, u16At, u32At, zeros};
 ghost use Rattle.rows.specs.Tests.{allZero};
 
 // Room for n bytes at `at`; the sum itself could pass the largest usize.
@@ -58,12 +58,6 @@ pub fn put_u16(s: &mut [u8], at: usize, x: u16)
     put(s, at, 2, x as u32);
 }
 
-pub fn put_u32(s: &mut [u8], at: usize, x: u32)
-    ensures { λ _. ⌜ now (s .exit) ≡ placed (now (s .entry)) at (be32 x) ⌝ }
-{
-    put(s, at, 4, x);
-}
-
 pub fn clear(s: &mut [u8], at: usize, n: usize)
     ensures { λ _. ⌜ now (s .exit) ≡ placed (now (s .entry)) at (zeros n) ⌝ }
 {
@@ -96,6 +90,7 @@ fn fields_fit(len: usize, at: usize, widths: &[u8]) -> bool
     end <= len
 }
 
+// A row: numbers one after another, each in its width. Those that are lacking are zero, so that a last width without a number is unused room.
 pub fn put_fields(s: &mut [u8], at: usize, widths: &[u8], xs: &[u32])
     ensures { λ _. ⌜ now (s .exit) ≡ placed (now (s .entry)) at (fieldsOf (now (widths .entry)) (now (xs .entry))) ⌝ }
 {

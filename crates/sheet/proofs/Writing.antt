@@ -6,13 +6,16 @@ use Prim.Native.Nat.{ℕ, zero, suc, _+_, _-_, _*_, _≤_, _<_, min}
 use native.Mathlib.Nat.{zero-add}
 use native.Mathlib.Numerals.{add-one}
 use native.Mathlib.Omega.{arith}
+use mir.Syntax.{w8}
+use mir.Val.{Fits}
 use lib.Dec.{eqb, ltb}
 use lib.ListN.{length, getD, drop, length-drop, drop-of-length-le}
 use lib.Seq.{drop-cons}
 use borrow.Author.Tests.{ltb-false, eqb-false, lt-ltb, le-ltb, ne-eqb}
 use Rattle.views.proofs.Truth.{neither-true}
-use Rattle.rows.specs.Bytes.{splice, placed, bytesOf, be16, be32}
+use Rattle.rows.specs.Bytes.{splice, placed, bytesOf, fieldsOf, be16, be32}
 use Rattle.rows.proofs.Laws.{placed-length, placed-nil, placed-more, placed-fits}
+use Rattle.rows.proofs.Numbers.{byte-number}
 use Rattle.rules.specs.declared.Step.{Step}
 use Rattle.rules.proofs.Sheets.{steps-length}
 use Rattle.rules.specs.Sheets.{mark, stepBytes, stepsBytes, sheetBytes, Written as Ruling, bad-sheet, no-room, wrote, number, written}
@@ -39,9 +42,13 @@ listed-at (suc i) (k ∷ ks) (n ∷ ids) (v ∷ vs) d h = listed-at i ks ids vs 
 
 -- ---- the bytes of a step, as they are written
 
-pub step-bytes : (k : Step) → (((k .kind ∷ []) ++ (k .id ∷ [])) ++ be16 0) ++ be32 (k .value) ≡ stepBytes k
+two-zeros : be16 0 ≡ 0 ∷ 0 ∷ []
 unfolding bytesOf
-step-bytes k = refl
+two-zeros = refl
+
+pub step-bytes : (k : Step) → Fits w8 (k .kind) → Fits w8 (k .id) → fieldsOf (1 ∷ 1 ∷ 2 ∷ 4 ∷ []) (k .kind ∷ k .id ∷ 0 ∷ k .value ∷ []) ≡ stepBytes k
+unfolding fieldsOf
+step-bytes k kind id = rw (byte-number kind, byte-number id, two-zeros, append-nil (be32 (k .value)))
 
 -- ---- the loop: with the steps from the i-th on written from o on, l is l₀ with all of them
 

@@ -2,9 +2,7 @@
 use rows::byte_at;
 use rows::has_room;
 use rows::is_zero;
-use rows::put_byte;
-use rows::put_u16;
-use rows::put_u32;
+use rows::put_fields;
 use rows::read_u32;
 use rules::Step;
 ghost use mathlib.Core.Path.{_≡_};
@@ -149,26 +147,27 @@ fn count(kinds: &[u8], ids: &[u8], values: &[u32]) -> usize
 }
 
 fn put_head(buf: &mut [u8], mask: u8)
-    requires { ⌜ 6 ≤ length (now buf) ⌝ }
     ensures { λ _. ⌜ now (buf .exit) ≡ placed (now (buf .entry)) 0 (mark ++ (mask ∷ [])) ⌝ }
 {
-    put_byte(buf, 0, MARK[0]);
-    put_byte(buf, 1, MARK[1]);
-    put_byte(buf, 2, MARK[2]);
-    put_byte(buf, 3, MARK[3]);
-    put_byte(buf, 4, MARK[4]);
-    put_byte(buf, 5, mask);
+    let widths = [1u8, 1, 1, 1, 1, 1];
+    let xs = [
+        MARK[0] as u32,
+        MARK[1] as u32,
+        MARK[2] as u32,
+        MARK[3] as u32,
+        MARK[4] as u32,
+        mask as u32,
+    ];
+    put_fields(buf, 0, &widths, &xs);
 }
 
 // "8 bytes a step: kind, id, two zero bytes, value"
 fn put_step(buf: &mut [u8], at: usize, step: Step)
-    requires { ⌜ at + 8 ≤ length (now buf) ⌝ }
     ensures { λ _. ⌜ now (buf .exit) ≡ placed (now (buf .entry)) at (stepBytes step) ⌝ }
 {
-    put_byte(buf, at, step.kind);
-    put_byte(buf, at + 1, step.id);
-    put_u16(buf, at + 2, 0);
-    put_u32(buf, at + 4, step.value);
+    let widths = [1u8, 1, 2, 4];
+    let xs = [step.kind as u32, step.id as u32, 0, step.value];
+    put_fields(buf, at, &widths, &xs);
 }
 
 fn put_steps(buf: &mut [u8], n: usize, kinds: &[u8], ids: &[u8], values: &[u32])
