@@ -19,7 +19,8 @@ use Rattle.stamps.specs.Stamp.{comparedOf, greaterOf, greatestOf, freshPair}
 use Rattle.stamps.specs.Stamp as stamps
 use Rattle.stamps.specs.declared.Stamp.{Stamp}
 use Rattle.stamps.specs.declared.Pair.{Pair}
-use Rattle.rows.specs.Bytes.{placed, fieldsOf, be16, u16At, u32At, zeros}
+use Rattle.rows.specs.Bytes as rows
+use Rattle.rows.specs.Bytes.{placed, be16, u16At, u32At, zeros}
 use Rattle.rows.specs.Tests.{allZero}
 use Rattle.rules.specs.Messages as rules
 use Rattle.rules.specs.State.{noRelay, noDesk}
@@ -185,8 +186,8 @@ rows-put-u16 s at x = by-equation (placed s at (be16 x))
 pub rows-clear : (s : List ℕ) (at n : ℕ) → Determined (λ b. b ≡ placed s at (zeros n))
 rows-clear s at n = by-equation (placed s at (zeros n))
 
-pub rows-put-fields : (s : List ℕ) (at : ℕ) (widths xs : List ℕ) → Determined (λ b. b ≡ placed s at (fieldsOf widths xs))
-rows-put-fields s at widths xs = by-equation (placed s at (fieldsOf widths xs))
+pub rows-put-fields : (s : List ℕ) (at : ℕ) (widths xs : List ℕ) → Determined (λ b. b ≡ placed s at (rows.fieldsOf widths xs))
+rows-put-fields s at widths xs = by-equation (placed s at (rows.fieldsOf widths xs))
 
 pub rows-read-u16 : (s : List ℕ) (at : ℕ) → Determined (λ r. r ≡ u16At s at)
 rows-read-u16 s at = by-equation (u16At s at)
