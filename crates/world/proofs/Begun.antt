@@ -1,15 +1,17 @@
 -- A start: relays and desks are written one after another into zeros; and CRASH, which writes one byte. Assumes nothing.
 use mathlib.Core.Path.{_≡_, refl, sym, ap, _∙_}
-use mathlib.Core.Logic.{_≢_}
+use mathlib.Core.Logic.{_≢_, ⊎-elim}
 use mathlib.Core.Bool.{true}
 use mathlib.Core.List.{List, [], _∷_}
-use Prim.Native.Nat.{ℕ, zero, suc, _+_, _*_, _≤_, _<_}
+use Prim.Native.Nat.{ℕ, zero, suc, _+_, _*_, _-_, _≤_, _<_}
 use native.Mathlib.Nat.{add-zero}
 use native.Mathlib.Numerals.{add-one}
 use native.Mathlib.Omega.{arith}
+use lib.Dec.{ltb}
 use lib.ListN.{length, getD, replicate, length-set, length-replicate}
 use lib.Seq.{getD-set-other}
-use borrow.Author.Tests.{eq-eqb, ne-eqb, lt-leb}
+use borrow.Author.Tests.{eq-eqb, ne-eqb, lt-leb, ltb-true, ltb-false}
+use Rattle.views.proofs.Truth.{decided}
 use Rattle.rows.specs.Bytes.{placed, splice, cat, zeros}
 use Rattle.rows.proofs.Laws.{placed-fits}
 use Rattle.rows.proofs.Tables.{splice-whole, length-zeros}
@@ -17,15 +19,15 @@ use Rattle.rules.specs.State.{Relay, noRelay, noDesk, free, World, relayAt, des
 use Rattle.rules.specs.declared.Desk.{Desk}
 use Rattle.rules.specs.Image.{headBytes, relayBytes, deskBytes, image, worldAt, goodBytes}
 use Rattle.rules.specs.Messages.{bad-world, bad-step}
-use Rattle.rules.specs.Steps.{noReport}
-use Rattle.rules.specs.Lent.{kept, lentStart}
+use Rattle.rules.specs.Steps.{noReport, crashing}
+use Rattle.rules.specs.Lent.{kept, left, lentStart}
 use Rattle.rules.proofs.ImageWidths.{length-head, length-desk, length-image}
 use Rattle.rules.proofs.ImageWorld.{Shaped, good-image}
 use Rattle.rules.proofs.ImageWrite.{write-head, put-head, write-relay, write-desk, put-desk}
 use Rattle.rules.proofs.ImageFits.{replicate-at}
 use Rattle.rules.proofs.ImageZeros.{image-zeros}
 use Rattle.world.specs.Answer.{accepted}
-use Rattle.world.specs.Commits.{relaysTo, desksTo, begun}
+use Rattle.world.specs.Commits.{rowOf, relaysTo, desksTo, begun}
 use Rattle.world.proofs.Good.{shaped}
 
 -- ---- the relays and desks so far
@@ -144,19 +146,24 @@ module _ (b : List ℕ) (good : goodBytes b ≡ true) where
   abbrev w : World
   w = worldAt b
 
-  pub relay-crashed : (s : ℕ) → s < 8 → placed b (s * 5440) (0 ∷ []) ≡ image (withRelay w s (crashedRelay (relayAt w s)))
+  relay-crashed : (s : ℕ) → s < 8 → placed b (s * 5440) (0 ∷ []) ≡ image (withRelay w s (crashedRelay (relayAt w s)))
   relay-crashed s h =
       ap (λ (l : List ℕ). placed l (s * 5440) (0 ∷ [])) (sym (good-image b good))
       ∙ placed-fits (image w) (0 ∷ []) (s * 5440) (omega (arith, length-image w))
       ∙ ap (λ (k : ℕ). splice (image w) k (0 ∷ [])) (sym (add-zero (s * 5440)))
       ∙ write-relay w (shaped b good) s 0 (0 ∷ []) (crashedRelay (relayAt w s)) h (omega arith) (crash-row (relayAt w s))
 
-  pub desk-crashed : (n : ℕ) → n < 4 → placed b (43520 + n * 64) (0 ∷ []) ≡ image (withDesk w n (crashedDesk (deskAt w n)))
+  desk-crashed : (n : ℕ) → n < 4 → placed b (43520 + n * 64) (0 ∷ []) ≡ image (withDesk w n (crashedDesk (deskAt w n)))
   desk-crashed n h =
       ap (λ (l : List ℕ). placed l (43520 + n * 64) (0 ∷ [])) (sym (good-image b good))
       ∙ placed-fits (image w) (0 ∷ []) (43520 + n * 64) (omega (arith, length-image w))
       ∙ ap (λ (k : ℕ). splice (image w) (43520 + k) (0 ∷ [])) (sym (add-zero (n * 64)))
       ∙ write-desk w (shaped b good) n 0 (0 ∷ []) (crashedDesk (deskAt w n)) h (omega arith) (crash-seat (deskAt w n))
+
+  pub crash-left : (who : ℕ) → who < 12 → (l : List ℕ) → l ≡ placed b (rowOf who) (0 ∷ []) → accepted noReport l ≡ left b (crashing w who)
+  unfolding crashing
+  crash-left who h l e =
+      rw e (⊎-elim (λ t. rw t (rw (relay-crashed who (ltb-true who 8 t)))) (λ t. rw t (rw (desk-crashed (who - 8) (omega (arith, ltb-false who 8 t))))) (decided (ltb who 8)))
 
 -- ---- what is left of a start
 

@@ -8,7 +8,7 @@ use native.Mathlib.Nat.{zero-add}
 use native.Mathlib.Omega.{arith}
 use lib.Dec.{eqb, ltb}
 use lib.ListN.{length, getD}
-use borrow.Author.Tests.{lt-ltb, le-ltb, not-true, ltb-true}
+use borrow.Author.Tests.{lt-ltb, not-true, ltb-true, ltb-false}
 use Rattle.views.proofs.Truth.{decided}
 use Rattle.rows.specs.Bytes.{u16At}
 use Rattle.rows.proofs.Laws.{getD-tab}
@@ -28,7 +28,7 @@ use Rattle.state.specs.declared.Head.{Head}
 use Rattle.state.specs.Meaning.{relayOf, asList}
 use Rattle.image.specs.Parts.{headAt}
 use Rattle.world.specs.Narrow.{Move, move, withTables, narrow}
-use Rattle.world.specs.Commits.{First, endsView, endsMove}
+use Rattle.world.specs.Commits.{First, rowOf, endsView, endsMove}
 use Rattle.world.proofs.NarrowTable.{byView, byMove}
 use Rattle.world.proofs.NarrowSeat.{present}
 use Rattle.world.proofs.NarrowPart.{seatOfView, seatOfMove, generator-there, generator-absent, transfer-there, transfer-absent}
@@ -56,13 +56,9 @@ module _ (b : List ℕ) where
   unfolding worldAt
   place-at p h = getD-tab 256 p (λ k. placeIn (rowAt b (43776 + k * 80))) free h
 
-  pub alive-relay : (s : ℕ) → s < 8 → eqb (getD b (s * 5440) 0) 1 ≡ aliveIn (worldAt b) s
-  unfolding relayAt
-  alive-relay s h = rw (lt-ltb s 8 h, relay-at s h)
-
-  pub alive-desk : (who : ℕ) → 8 ≤ who → who < 12 → eqb (getD b (43520 + (who - 8) * 64) 0) 1 ≡ aliveIn (worldAt b) who
-  unfolding deskAt
-  alive-desk who h k = rw (le-ltb who 8 h, desk-at (who - 8) (omega arith))
+  pub alive-row : (who : ℕ) → who < 12 → eqb (getD b (rowOf who) 0) 1 ≡ aliveIn (worldAt b) who
+  unfolding relayAt deskAt
+  alive-row who h = ⊎-elim (λ t. rw t (rw (relay-at who (ltb-true who 8 t)))) (λ t. rw t (rw (desk-at (who - 8) (omega (arith, ltb-false who 8 t))))) (decided (ltb who 8))
 
   pub view-at : (s : ℕ) → s < 8 → u16At b (s * 5440 + 3) ≡ state.relayAt (worldAt b) s .view
   unfolding relayAt

@@ -1,19 +1,19 @@
 -- How a step is routed: which act it tells, which message a place holds, and what the acts are of their parts. Assumes nothing.
 use mathlib.Core.Path.{_≡_, refl, sym, ap, _∙_}
 use mathlib.Core.Logic.{_≢_, ⊎-elim}
-use mathlib.Core.Bool.{Bool, true, false, _&&_, and-false, and-true, and-eq-true-iff}
+use mathlib.Core.Bool.{Bool, true, false, not, _&&_, and-false, and-eq-true-iff}
 use mathlib.Core.List.{List}
 use Prim.Native.Nat.{ℕ, zero, suc, _+_, _*_, _-_, _≤_, _<_}
 use native.Mathlib.Omega.{arith}
 use lib.Dec.{eqb, leb, ltb}
-use borrow.Author.Tests.{ne-eqb, lt-ltb, le-ltb, ltb-true, leb-true}
+use borrow.Author.Tests.{ne-eqb, lt-ltb, le-ltb, lt-leb, ltb-true, not-true, not-false}
 use Rattle.views.proofs.Truth.{decided, contrary, cases, either-true}
 use Rattle.views.proofs.Sets.{member-lt}
 use Rattle.rules.specs.Sets.{if_then_else_, member}
 use Rattle.rules.specs.Messages.{Body, request, view, proposal, converged, install, state, get, put, viewReply, pairReply, ack, Message, Answer, dead, empty, bad-step, bad-world}
-use Rattle.rules.specs.State.{Relay, Place, free, waiting, World, relayAt, deskAt, placeAt, withRelay, withDesk, crashedRelay, crashedDesk}
+use Rattle.rules.specs.State.{Relay, Place, free, waiting, World, relayAt, deskAt, placeAt, withRelay, withDesk}
 use Rattle.rules.specs.declared.Desk as rules-desk
-use Rattle.rules.specs.Steps.{drop, Act, noReport, deliver, crash, bad, told, Outcome, relayDoes, deskDoes, aliveIn, ifAlive, freed, delivers, delivery, dropping, crashing, acts, stepped}
+use Rattle.rules.specs.Steps.{drop, Act, noReport, deliver, bad, told, Outcome, refusal, relayDoes, deskDoes, aliveIn, ifAlive, freed, delivers, delivery, dropping, crashing, acts, stepped}
 use Rattle.rules.specs.declared.Step.{Step}
 use Rattle.rules.specs.Relays.{relayHears}
 use Rattle.rules.specs.Desks.{deskHears}
@@ -30,65 +30,68 @@ use Rattle.image.specs.Parts.{messageRow}
 use Rattle.image.proofs.Parts.{place-is}
 use Rattle.world.specs.Answer.{accepted}
 use Rattle.world.specs.Narrow.{generatorOfBody, move, moveOfBody, widens}
-use Rattle.world.specs.Commits.{freeRow, freedAt, delivered, relayLeft, deskLeft, relayAsked, relayAct, deskAsked, deskAct}
+use Rattle.world.specs.Commits.{freeRow, freedAt, delivered, relayLeft, deskLeft, relayAsked, relayActs, deskAsked, deskActs, actorOf}
 use Rattle.world.proofs.Places.{isFree, free-row, is-free}
 use Rattle.world.proofs.Good.{place-at, good-place}
 
 -- ---- which act a step tells
 
+other : (m j : ℕ) → j < m → eqb m j ≡ false
+other m j h = ne-eqb m j (λ (e : m ≡ j). omega arith)
+
+-- what a kind makes who do; 12 is nobody
+abbrev pub doing : World → ℕ → ℕ → ℕ → Outcome
+doing w kind who x = if eqb kind 8 then crashing w who else if ltb who 8 then relayActs w kind who else deskActs w kind (who - 8) x
+
+abbrev pub routed : World → ℕ → ℕ → ℕ → Outcome
+routed w kind who x = if ltb who 12 then ifAlive w who (doing w kind who x) else refusal bad-step
+
 module _ (k : Step) where
-  module _ (v : k .value ≡ 0) where
-    pub told-relay : leb 1 (k .kind) && leb (k .kind) 3 ≡ true → told k ≡ relayAct (k .kind) (k .id)
-    unfolding told relayAct
-    told-relay h = let two = and-eq-true-iff (leb 1 (k .kind)) (leb (k .kind) 3) .0 h in go (k .kind) refl (leb-true 1 (k .kind) (two .0)) (leb-true (k .kind) 3 (two .1))
-      where
-        go : (n : ℕ) → k .kind ≡ n → 1 ≤ n → n ≤ 3 → told k ≡ relayAct n (k .id)
-        go zero e l h = absurd (omega arith)
-        go (suc zero) e l h = rw (e, v, and-true (ltb (k .id) 8))
-        go (suc (suc zero)) e l h = rw (e, v, and-true (ltb (k .id) 8))
-        go (suc (suc (suc zero))) e l h = rw (e, v, and-true (ltb (k .id) 8))
-        go (suc (suc (suc (suc n)))) e l h = absurd (omega arith)
+  -- "A value other than 0 belongs to WRITE only."
+  abbrev pub valued : ℕ → Bool
+  valued kind = not (eqb kind 5) && not (eqb (k .value) 0)
 
-    pub told-read : k .kind ≡ 4 → told k ≡ deskAct (k .kind) (k .id) 0
-    unfolding told deskAct
-    told-read e = rw (e, v, and-true (ltb (k .id) 4))
+  pub told-valued : valued (k .kind) ≡ true → told k ≡ bad
+  unfolding told
+  told-valued h =
+      let two = and-eq-true-iff (not (eqb (k .kind) 5)) (not (eqb (k .value) 0)) .0 h in
+      simp (not-true (eqb (k .kind) 5) (two .0), not-true (eqb (k .value) 0) (two .1), and-false)
 
+  module _ (v : valued (k .kind) ≡ false) where
     pub told-deliver : k .kind ≡ 6 → k .id < 256 → told k ≡ deliver (k .id)
     unfolding told
-    told-deliver e h = rw (e, v, lt-ltb (k .id) 256 h)
+    told-deliver e h = rw (e, not-false (eqb (k .value) 0) (rw e at v), lt-ltb (k .id) 256 h)
 
     pub told-drop : k .kind ≡ 7 → k .id < 256 → told k ≡ drop (k .id)
     unfolding told
-    told-drop e h = rw (e, v, lt-ltb (k .id) 256 h)
+    told-drop e h = rw (e, not-false (eqb (k .value) 0) (rw e at v), lt-ltb (k .id) 256 h)
 
-    pub told-crash : k .kind ≡ 8 → told k ≡ (if ltb (k .id) 12 then crash (k .id) else bad)
-    unfolding told
-    told-crash e = rw (e, v, and-true (ltb (k .id) 12))
+    pub acted : (w : World) → k .kind ≢ 6 → k .kind ≢ 7 → k .value < 4294967296 → acts w (told k) ≡ routed w (k .kind) (actorOf (k .kind) (k .id)) (k .value)
+    unfolding acts told actorOf relayAsked deskAsked
+    acted w p q h = go (k .kind) refl v
+      where
+        i : ℕ
+        i = k .id
 
-  pub told-write : k .kind ≡ 5 → k .value < 4294967296 → told k ≡ deskAct (k .kind) (k .id) (k .value)
-  unfolding told deskAct
-  told-write e h = rw (e, lt-ltb (k .value) 4294967296 h, and-true (ltb (k .id) 4))
+        back : 8 + i - 8 ≡ i
+        back = omega arith
 
-  -- "A value other than 0 belongs to WRITE only."
-  pub told-valued : k .kind ≢ 5 → k .value ≢ 0 → told k ≡ bad
-  unfolding told
-  told-valued e v = simp (ne-eqb (k .kind) 5 e, ne-eqb (k .value) 0 v, and-false)
+        beyond : (m : ℕ) → k .kind ≡ m → 9 ≤ m → acts w (told k) ≡ routed w m (actorOf m i) (k .value)
+        beyond m e l = rw e (simp (lt-leb m 3 (omega arith), lt-leb m 5 (omega arith), and-false, other m 1 (omega arith), other m 2 (omega arith), other m 3 (omega arith), other m 4 (omega arith), other m 5 (omega arith), other m 6 (omega arith), other m 7 (omega arith), other m 8 (omega arith)))
 
-  pub told-unkind : leb 1 (k .kind) && leb (k .kind) 3 ≡ false → k .kind ≢ 4 → k .kind ≢ 5 → k .kind ≢ 6 → k .kind ≢ 7 → k .kind ≢ 8 → told k ≡ bad
-  unfolding told
-  told-unkind a d e f g h =
-      simp (ne-eqb (k .kind) 1 (not-at 1 refl), ne-eqb (k .kind) 2 (not-at 2 refl), ne-eqb (k .kind) 3 (not-at 3 refl), ne-eqb (k .kind) 4 d, ne-eqb (k .kind) 5 e, ne-eqb (k .kind) 6 f, ne-eqb (k .kind) 7 g, ne-eqb (k .kind) 8 h)
-    where
-      not-at : (n : ℕ) → leb 1 n && leb n 3 ≡ true → k .kind ≢ n
-      not-at n t q = contrary t (rw q at a)
+        go : (n : ℕ) → k .kind ≡ n → valued n ≡ false → acts w (told k) ≡ routed w n (actorOf n i) (k .value)
+        go zero e z = rw e
+        go (suc zero) e z = rw (e, not-false (eqb (k .value) 0) z) (⊎-elim (λ t. rw t (rw (t, lt-ltb i 12 (omega (arith, ltb-true i 8 t))))) (λ t. rw t) (decided (ltb i 8)))
+        go (suc (suc zero)) e z = rw (e, not-false (eqb (k .value) 0) z) (⊎-elim (λ t. rw t (rw (t, lt-ltb i 12 (omega (arith, ltb-true i 8 t))))) (λ t. rw t) (decided (ltb i 8)))
+        go (suc (suc (suc zero))) e z = rw (e, not-false (eqb (k .value) 0) z) (⊎-elim (λ t. rw t (rw (t, lt-ltb i 12 (omega (arith, ltb-true i 8 t))))) (λ t. rw t) (decided (ltb i 8)))
+        go (suc (suc (suc (suc zero)))) e z = rw (e, not-false (eqb (k .value) 0) z) (⊎-elim (λ t. rw t (rw (lt-ltb (8 + i) 12 (omega (arith, ltb-true i 4 t)), le-ltb (8 + i) 8 (omega arith), back))) (λ t. rw t) (decided (ltb i 4)))
+        go (suc (suc (suc (suc (suc zero))))) e z = rw (e, lt-ltb (k .value) 4294967296 h) (⊎-elim (λ t. rw t (rw (lt-ltb (8 + i) 12 (omega (arith, ltb-true i 4 t)), le-ltb (8 + i) 8 (omega arith), back))) (λ t. rw t) (decided (ltb i 4)))
+        go (suc (suc (suc (suc (suc (suc zero)))))) e z = absurd (p e)
+        go (suc (suc (suc (suc (suc (suc (suc zero))))))) e z = absurd (q e)
+        go (suc (suc (suc (suc (suc (suc (suc (suc zero)))))))) e z = rw (e, not-false (eqb (k .value) 0) z) (⊎-elim (λ t. rw t (rw t)) (λ t. rw t) (decided (ltb i 12)))
+        go (suc (suc (suc (suc (suc (suc (suc (suc (suc n))))))))) e z = beyond _ e (omega arith)
 
 -- ---- an act of who is dead, and of who is alive
-
-pub twelve : (s : ℕ) → s < 8 → s < 12
-twelve s h = omega arith
-
-pub desk-twelve : (n : ℕ) → n < 4 → 8 + n < 12
-desk-twelve n h = omega arith
 
 module _ (b : List ℕ) (who : ℕ) (o : Outcome) where
   pub dead-left : aliveIn (worldAt b) who ≡ false → kept dead b ≡ left b (ifAlive (worldAt b) who o)
@@ -98,16 +101,6 @@ module _ (b : List ℕ) (who : ℕ) (o : Outcome) where
   pub alive-left : aliveIn (worldAt b) who ≡ true → left b o ≡ left b (ifAlive (worldAt b) who o)
   unfolding ifAlive
   alive-left e = rw e
-
--- ---- what a kind asks of a relay, and of a desk
-
-pub relay-asked : (w : World) (kind s : ℕ) → s < 8 → acts w (relayAct kind s) ≡ ifAlive w s (relayDoes w 0 s (relayAsked kind s (relayAt w s)))
-unfolding acts relayAct relayAsked
-relay-asked w kind s h = rw (lt-ltb s 8 h) (⊎-elim (λ t. rw t) (λ t. rw t (⊎-elim (λ u. rw u) (λ u. rw u) (decided (eqb kind 2)))) (decided (eqb kind 1)))
-
-pub desk-asked : (w : World) (kind n x : ℕ) → n < 4 → acts w (deskAct kind n x) ≡ ifAlive w (8 + n) (deskDoes w 0 n (deskAsked kind x (deskAt w n)))
-unfolding acts deskAct deskAsked
-desk-asked w kind n x h = rw (lt-ltb n 4 h) (⊎-elim (λ t. rw t) (λ t. rw t) (decided (eqb kind 5)))
 
 -- ---- what is left of an answer that no delivery asked for
 
@@ -233,7 +226,7 @@ module _ (b : code-body.Body) where
       (λ _. cases NoMove (eqb (b .kind) 4) (λ _. refl) (λ _. cases NoMove (eqb (b .kind) 7) (λ _. refl) (λ _. cases NoMove (eqb (b .kind) 8) (λ _. refl)
       (λ _. cases NoMove (eqb (b .kind) 9) (λ _. refl) (λ _. cases NoMove (eqb (b .kind) 10) (λ _. refl) (λ _. refl)))))))))
 
--- ---- DROP, CRASH, and any step of good bytes
+-- ---- DROP, and any step of good bytes
 
 go-drop : (b : List ℕ) (w : World) (p : ℕ) (x : Place) → isFree x ≡ false → accepted noReport (image (freed w p)) ≡ left b (dropping w p x)
 unfolding dropping
@@ -244,16 +237,6 @@ module _ (b : List ℕ) (good : goodBytes b ≡ true) where
   pub drop-left : (p : ℕ) → p < 256 → freeRow b p ≡ false → (l : List ℕ) → l ≡ image (freedAt (worldAt b) p) → accepted noReport l ≡ left b (acts (worldAt b) (drop p))
   unfolding acts freedAt
   drop-left p h e l q = rw (q, lt-ltb p 256 h) (go-drop b (worldAt b) p (placeAt (worldAt b) p) (sym (free-place b good p h) ∙ e))
-
-  module _ (who : ℕ) (alive : aliveIn (worldAt b) who ≡ true) (l : List ℕ) where
-    pub crash-relay : who < 8 → l ≡ image (withRelay (worldAt b) who (crashedRelay (relayAt (worldAt b) who))) → accepted noReport l ≡ left b (acts (worldAt b) (if ltb who 12 then crash who else bad))
-    unfolding acts ifAlive crashing
-    crash-relay h q = rw (lt-ltb who 12 (twelve who h), alive, lt-ltb who 8 h, q)
-
-    pub crash-desk : 8 ≤ who → who < 12 → l ≡ image (withDesk (worldAt b) (who - 8) (crashedDesk (deskAt (worldAt b) (who - 8))))
-        → accepted noReport l ≡ left b (acts (worldAt b) (if ltb who 12 then crash who else bad))
-    unfolding acts ifAlive crashing
-    crash-desk h k q = rw (lt-ltb who 12 k, alive, le-ltb who 8 h, q)
 
   pub step-left : (k : Step) (x : Act) → told k ≡ x → left b (acts (worldAt b) x) ≡ lentStep b k
   unfolding lentStep stepped

@@ -2,17 +2,17 @@
 use mathlib.Core.Path.{_≡_}
 use mathlib.Core.Bool.{Bool, true, false, not, _&&_, _||_}
 use mathlib.Core.List.{List}
-use Prim.Native.Nat.{ℕ, zero, suc, _+_, _*_, _≤_, _<_}
+use Prim.Native.Nat.{ℕ, zero, suc, _+_, _*_, _-_, _≤_, _<_}
 use lib.Dec.{eqb, leb, ltb}
 use lib.ListN.{length, getD, set, replicate}
 use Rattle.rows.specs.Bytes.{u16At, tab}
 use Rattle.rules.specs.Sets.{if_then_else_, bit, those, inside}
 use Rattle.rules.specs.Messages.{Body, Message, Answer, refused, does}
-use Rattle.rules.specs.State.{Transfer, Relay, Place, free, waiting, noRelay, noDesk, World, relayAt, placeAt, startRelay, startDesk}
+use Rattle.rules.specs.State.{Transfer, Relay, Place, free, waiting, noRelay, noDesk, World, relayAt, deskAt, placeAt, startRelay, startDesk}
 use Rattle.rules.specs.declared.Desk.{Desk}
 use Rattle.rules.specs.Relays.{joinAsked, leaveAsked, timerRang}
 use Rattle.rules.specs.Desks.{readAsked, writeAsked}
-use Rattle.rules.specs.Steps.{Act, join, leave, timer, read, write, bad, relayDoes, deskDoes, freed}
+use Rattle.rules.specs.Steps.{Outcome, relayDoes, deskDoes, freed}
 use Rattle.rules.specs.Image.{transferAt, worldAt}
 use Rattle.rules.specs.Lent.{Lent, left}
 use Rattle.world.specs.Narrow.{widens}
@@ -24,6 +24,10 @@ pub record First (n : ℕ) (f : ℕ → Bool) (r : ℕ) : Type 0 where
   pub here : r < n → f r ≡ true
 
 -- ---- looked up in the bytes
+
+-- the row of who
+abbrev pub rowOf : ℕ → ℕ
+rowOf who = if ltb who 8 then who * 5440 else 43520 + (who - 8) * 64
 
 -- the place p is free: its kind is 0
 unfoldable pub freeRow : List ℕ → ℕ → Bool
@@ -78,21 +82,29 @@ relayLeft b n p s a = left b (relayDoes (freedAt (worldAt b) p) n s (widens (rel
 unfoldable pub deskLeft : List ℕ → ℕ → ℕ → ℕ → Answer Desk → Lent
 deskLeft b n p d a = left b (deskDoes (freedAt (worldAt b) p) n d a)
 
--- ---- asked: the rule, and the act, of a kind
+-- ---- asked: the rule of a kind, and who acts
 
 -- "1 JOIN relay, 2 LEAVE relay, 3 TIMER relay"
 unfoldable pub relayAsked : ℕ → ℕ → Relay → Answer Relay
 relayAsked kind s r = if eqb kind 1 then joinAsked s r else if eqb kind 2 then leaveAsked s r else timerRang r
 
-unfoldable pub relayAct : ℕ → ℕ → Act
-relayAct kind s = if ltb s 8 then (if eqb kind 1 then join s else if eqb kind 2 then leave s else timer s) else bad
+abbrev pub relayActs : World → ℕ → ℕ → Outcome
+relayActs w kind s = relayDoes w 0 s (relayAsked kind s (relayAt w s))
 
 -- "4 READ desk, 5 WRITE desk value"
 unfoldable pub deskAsked : ℕ → ℕ → Desk → Answer Desk
 deskAsked kind x d = if eqb kind 5 then writeAsked d x else readAsked d
 
-unfoldable pub deskAct : ℕ → ℕ → ℕ → Act
-deskAct kind n x = if ltb n 4 then (if eqb kind 5 then write n x else read n) else bad
+abbrev pub deskActs : World → ℕ → ℕ → ℕ → Outcome
+deskActs w kind n x = deskDoes w 0 n (deskAsked kind x (deskAt w n))
+
+-- who acts in a step of the kind, 0..7 relays, 8..11 desks; 12 is nobody
+unfoldable pub actorOf : ℕ → ℕ → ℕ
+actorOf kind id =
+    if (leb 1 kind && leb kind 3) && ltb id 8 then id
+    else if (leb 4 kind && leb kind 5) && ltb id 4 then 8 + id
+    else if eqb kind 8 && ltb id 12 then id
+    else 12
 
 -- ---- begun: the first n relays and m desks of a start are there
 

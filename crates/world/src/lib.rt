@@ -4,8 +4,6 @@ ghost use mathlib.Core.Path.{_≡_};
 ghost use mathlib.Core.Bool.{true};
 ghost use mathlib.Core.List.{List};
 ghost use Prim.Native.Nat.{ℕ, _≤_, _<_};
-ghost use lib.Dec.{ltb};
-ghost use Rattle.rules.specs.Sets.{if_then_else_};
 ghost use Rattle.rules.specs.Messages as rules;
 ghost use Rattle.rules.specs.State.{Relay, noRelay, noDesk, waiting, placeAt};
 ghost use Rattle.rules.specs.declared.Desk as code;
@@ -17,7 +15,7 @@ ghost use Rattle.state.specs.Plans.{planOf, deskPlanOf, planned};
 ghost use Rattle.relay.specs.Fitting.{showsView};
 ghost use Rattle.world.specs.Answer.{lentOf, accepted};
 ghost use Rattle.world.specs.Narrow.{generatorOfBody, moveOfBody};
-ghost use Rattle.world.specs.Commits.{delivered, fewer, relayLeft, deskLeft, relayAsked, relayAct, deskAsked, deskAct};
+ghost use Rattle.world.specs.Commits.{delivered, fewer, relayLeft, deskLeft, relayAsked, relayActs, deskAsked, deskActs, actorOf};
 use rules::Desk;
 use rules::Step;
 use stamps::Pair;
@@ -153,15 +151,9 @@ fn relay_asked(kind: u8, s: u8, part: Part) -> Plan
 
 // "1 JOIN relay, 2 LEAVE relay, 3 TIMER relay"
 fn relay_acts(w: &mut [u8], kind: u8, s: u8) -> Answer
-    requires { ⌜ goodBytes (now w) ≡ true ⌝ }
-    ensures { λ r. ⌜ lentOf r (now (w .exit)) ≡ lent.left (now (w .entry)) (steps.acts (worldAt (now (w .entry))) (relayAct kind s)) ⌝ }
+    requires { ⌜ (goodBytes (now w) ≡ true) × (s < 8) ⌝ }
+    ensures { λ r. ⌜ lentOf r (now (w .exit)) ≡ lent.left (now (w .entry)) (relayActs (worldAt (now (w .entry))) kind s) ⌝ }
 {
-    if 8 <= s {
-        return refuses(2);
-    }
-    if !reads::alive_at(w, s) {
-        return refuses(4);
-    }
     let view = rows::read_u16(w, s as usize * 5440 + 3);
     let part = reads::part_at(w, s, view, 0, 0);
     let plan = relay_asked(kind, s, part);
@@ -181,15 +173,9 @@ fn desk_asked(kind: u8, x: u32, desk: Desk) -> DeskPlan
 
 // "4 READ desk, 5 WRITE desk value"
 fn desk_acts(w: &mut [u8], kind: u8, n: u8, x: u32) -> Answer
-    requires { ⌜ goodBytes (now w) ≡ true ⌝ }
-    ensures { λ r. ⌜ lentOf r (now (w .exit)) ≡ lent.left (now (w .entry)) (steps.acts (worldAt (now (w .entry))) (deskAct kind n x)) ⌝ }
+    requires { ⌜ (goodBytes (now w) ≡ true) × (n < 4) ⌝ }
+    ensures { λ r. ⌜ lentOf r (now (w .exit)) ≡ lent.left (now (w .entry)) (deskActs (worldAt (now (w .entry))) kind n x) ⌝ }
 {
-    if 4 <= n {
-        return refuses(2);
-    }
-    if !reads::alive_at(w, 8 + n) {
-        return refuses(4);
-    }
     let desk = image::desk_at(w, 43520 + n as usize * 64);
     let plan = desk_asked(kind, x, desk);
     desk_commits(w, n, 256, plan)
@@ -297,25 +283,30 @@ fn drop_place(w: &mut [u8], id: u8) -> Answer
 
 // "CRASH only ends alive"
 fn crash(w: &mut [u8], who: u8) -> Answer
-    requires { ⌜ goodBytes (now w) ≡ true ⌝ }
-    ensures { λ r. ⌜ lentOf r (now (w .exit)) ≡ lent.left (now (w .entry)) (steps.acts (worldAt (now (w .entry))) (if ltb who 12 then steps.crash who else steps.bad)) ⌝ }
+    requires { ⌜ (goodBytes (now w) ≡ true) × (who < 12) ⌝ }
+    ensures { λ r. ⌜ lentOf r (now (w .exit)) ≡ lent.left (now (w .entry)) (steps.crashing (worldAt (now (w .entry))) who) ⌝ }
 {
-    if 12 <= who {
-        return refuses(2);
-    }
-    if !reads::alive_at(w, who) {
-        return refuses(4);
-    }
-    let i = who as usize;
-    if i < 8 {
-        rows::put_byte(w, i * 5440, 0);
-        return tells(Event::Nothing, 0);
-    }
-    rows::put_byte(w, 43520 + (i - 8) * 64, 0);
+    rows::put_byte(w, reads::row_of(who), 0);
     tells(Event::Nothing, 0)
 }
 
 // ---- one step
+
+// Who acts in a step of JOIN, LEAVE, TIMER, READ, WRITE or CRASH; 12 for an id out of range, and for no such kind.
+fn actor(kind: u8, id: u8) -> u8
+    ensures { λ r. ⌜ r ≡ actorOf kind id ⌝ }
+{
+    if (1 <= kind) & (kind <= 3) & (id < 8) {
+        return id;
+    }
+    if (4 <= kind) & (kind <= 5) & (id < 4) {
+        return 8 + id;
+    }
+    if (kind == 8) & (id < 12) {
+        return id;
+    }
+    12
+}
 
 // A step of a good world.
 fn step_good(w: &mut [u8], k: Step) -> Answer
@@ -323,29 +314,29 @@ fn step_good(w: &mut [u8], k: Step) -> Answer
     ensures { λ r. ⌜ lentOf r (now (w .exit)) ≡ lent.lentStep (now (w .entry)) k ⌝ }
 {
     let kind = k.kind;
-    let id = k.id;
-    if kind == 5 {
-        return desk_acts(w, kind, id, k.value);
-    }
-    if k.value != 0 {
+    if (kind != 5) & (k.value != 0) {
         return refuses(2);
     }
-    if (1 <= kind) & (kind <= 3) {
-        return relay_acts(w, kind, id);
-    }
-    if kind == 4 {
-        return desk_acts(w, kind, id, 0);
-    }
     if kind == 6 {
-        return deliver(w, id);
+        return deliver(w, k.id);
     }
     if kind == 7 {
-        return drop_place(w, id);
+        return drop_place(w, k.id);
+    }
+    let who = actor(kind, k.id);
+    if 12 <= who {
+        return refuses(2);
+    }
+    if !reads::alive_at(w, who) {
+        return refuses(4);
     }
     if kind == 8 {
-        return crash(w, id);
+        return crash(w, who);
     }
-    refuses(2)
+    if who < 8 {
+        return relay_acts(w, kind, who);
+    }
+    desk_acts(w, kind, who - 8, k.value)
 }
 
 // Any step on any buffer. "BAD WORLD: world not good"

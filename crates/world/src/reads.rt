@@ -11,7 +11,7 @@ ghost use Rattle.rules.specs.Steps.{aliveIn};
 ghost use Rattle.rules.specs.Image.{worldAt, goodBytes, generatorAt};
 ghost use Rattle.state.specs.Meaning.{partOf, generatorOf};
 ghost use Rattle.world.specs.Narrow.{move, narrow, widened};
-ghost use Rattle.world.specs.Commits.{First, freeRow, freeRows, endsView, endsMove, receiversBelow};
+ghost use Rattle.world.specs.Commits.{First, rowOf, freeRow, freeRows, endsView, endsMove, receiversBelow};
 use state::Generator;
 use state::Part;
 
@@ -76,15 +76,21 @@ pub(crate) fn has_room(w: &[u8], p: usize, first: u16, second: u16) -> bool
 
 // ---- relays and desks
 
-// 0..7 relays, 8..11 desks.
-pub(crate) fn alive_at(w: &[u8], who: u8) -> bool
-    ensures { λ r. ⌜ (who < 12 → r ≡ aliveIn (worldAt (now (w .entry))) who) ⌝ }
+// The row of who: 0..7 relays, 8..11 desks. Its first byte says whether it is alive.
+pub(crate) fn row_of(who: u8) -> usize
+    ensures { λ r. ⌜ r ≡ rowOf who ⌝ }
 {
-    let i = who as usize;
-    if i < 8 {
-        return rows::byte_at(w, i * 5440) == 1;
+    if who < 8 {
+        return who as usize * 5440;
     }
-    rows::byte_at(w, 43520 + (i - 8) * 64) == 1
+    43520 + (who as usize - 8) * 64
+}
+
+pub(crate) fn alive_at(w: &[u8], who: u8) -> bool
+    requires { ⌜ who < 12 ⌝ }
+    ensures { λ r. ⌜ r ≡ aliveIn (worldAt (now (w .entry))) who ⌝ }
+{
+    rows::byte_at(w, row_of(who)) == 1
 }
 
 // The row of a generator at `at` is not filled, or is for v.

@@ -5,7 +5,10 @@ use borrow.Author.Needs.{needs}
 use borrow.Author.Tests.{not-true, not-false}
 use Rattle.rules.specs.Messages.{empty, dead}
 use Rattle.rules.specs.State.{waiting, placeAt}
+use Rattle.rules.specs.Steps.{acts, freed, delivers}
+use Rattle.rules.specs.Steps as steps
 use Rattle.rules.specs.Image.{worldAt}
+use Rattle.rules.specs.Lent.{left}
 use Rattle.state.specs.Meaning.{messageOf}
 use Rattle.world.proofs.Routes.{empty-left, place-holds, held-good, held-dead, held-alive, to-below}
 use Rattle.world.proofs.deliver.Statement.{statement}
@@ -43,34 +46,20 @@ returns-2 c =
     let a = read .before .before .before .before .before .before in
     let b = a .args .w .now in
     let small : a .args .id < 256 = search needs in
-    c .refuses2 .ensures dead b refl
-    ∙ held-dead b (a .pre) (a .args .id) small (messageOf (read .message-at .result)) (held read) (sym (lives .alive-at .ensures (below read)) ∙ not-true _ (c .before .if2 .taken))
+    c .refuses2 .ensures dead b refl ∙ held-dead b (a .pre) (a .args .id) small (messageOf (read .message-at .result)) (held read) (sym (lives .alive-at .ensures) ∙ not-true _ (c .before .if2 .taken))
 
-returns-3 : tie.Need-returns-3
-unfolding messageOf
-returns-3 c =
-    let done = c .before .before in
-    let alive = done .before .before .before .before in
-    let lives = alive .before in
-    let read = lives .before .before in
+-- what is left where the receiver is alive
+heard : (c : tie.Else2) → let read = c .before .before .before in
     let a = read .before .before .before .before .before .before in
     let b = a .args .w .now in
-    let small : a .args .id < 256 = search needs in
-    done .to-relay .ensures
-    ∙ held-alive b (a .pre) (a .args .id) small (messageOf (read .message-at .result)) (held read) (sym (lives .alive-at .ensures (below read)) ∙ not-false _ (alive .if2 .left))
-
-returns-4 : tie.Need-returns-4
+    left b (delivers (freed (worldAt b) (a .args .id)) (messageOf (read .message-at .result))) ≡ left b (acts (worldAt b) (steps.deliver (a .args .id)))
 unfolding messageOf
-returns-4 c =
-    let done = c .before .before in
-    let alive = done .before .before .before .before in
-    let lives = alive .before in
+heard c =
+    let lives = c .before in
     let read = lives .before .before in
     let a = read .before .before .before .before .before .before in
-    let b = a .args .w .now in
     let small : a .args .id < 256 = search needs in
-    done .to-desk .ensures
-    ∙ held-alive b (a .pre) (a .args .id) small (messageOf (read .message-at .result)) (held read) (sym (lives .alive-at .ensures (below read)) ∙ not-false _ (alive .if2 .left))
+    held-alive (a .args .w .now) (a .pre) (a .args .id) small (messageOf (read .message-at .result)) (held read) (sym (lives .alive-at .ensures) ∙ not-false _ (c .if2 .left))
 
 to-relay-requires : tie.Need-to-relay-requires
 to-relay-requires c κs =
@@ -85,4 +74,5 @@ to-desk-requires c κs =
     ((a .pre), (search needs, (held read, (c .before .if3 .left, below read))))
 
 pub deliver-spec : {M : Type 1} → statement M
-deliver-spec = tie.close (tie.spec (λ c κs. search needs) (λ c κs. tt) (λ c. search needs) returns (λ c. search needs) (λ c. search needs) (λ c κs. tt) (λ c κs. tt) (λ c κs. tt) (λ c. search needs) returns-2 to-relay-requires (λ c. search needs) returns-3 to-desk-requires (λ c. search needs) returns-4)
+deliver-spec = tie.close (tie.spec (λ c κs. search needs) (λ c κs. tt) (λ c. search needs) returns (λ c. search needs) (λ c. search needs) (λ c κs. tt) (λ c κs. below (c .before)) (λ c κs. tt) (λ c. search needs) returns-2 to-relay-requires (λ c. search needs) (λ c. c .before .before .to-relay .ensures ∙ heard (c .before .before .before .before .before .before)) to-desk-requires (λ c. search needs)
+    (λ c. c .before .before .to-desk .ensures ∙ heard (c .before .before .before .before .before .before)))

@@ -1,88 +1,104 @@
 -- `world::step_good` meets its contract. Assumes nothing.
-use mathlib.Core.Path.{refl, _∙_}
-use Prim.Native.Nat.{_<_}
+use mathlib.Core.Path.{_≡_, refl, sym, ap, _∙_}
+use mathlib.Core.Bool.{true}
+use Prim.Native.Nat.{_-_, _<_}
+use native.Mathlib.Omega.{arith}
+use lib.Dec.{eqb, ltb}
 use borrow.Author.Needs.{needs}
-use Rattle.rules.specs.Messages.{bad-step}
-use Rattle.world.proofs.Routes.{step-left, bad-left, told-relay, told-read, told-write, told-deliver, told-drop, told-crash, told-valued, told-unkind}
+use borrow.Author.Tests.{eq-eqb, ne-eqb, lt-ltb, le-ltb, not-true, not-false}
+use Rattle.rules.specs.Sets.{if_then_else_}
+use Rattle.rules.specs.Messages.{bad-step, dead}
+use Rattle.rules.specs.Image.{worldAt, goodBytes}
+use Rattle.rules.specs.Lent.{left, lentStep}
+use Rattle.world.proofs.Routes.{doing, routed, step-left, bad-left, told-valued, told-deliver, told-drop, acted, dead-left, alive-left}
 use Rattle.world.proofs.step_good.Statement.{statement}
 use Rattle.world.proofs.step_good.Tie as tie
 
 returns : tie.Need-returns
 returns c =
-    let done = c .before .before in
-    let t = done .before .before in
-    let a = t .before .before in
-    let k = a .args .k in
-    let small : k .value < 4294967296 = search needs in
-    done .desk-acts .ensures ∙ step-left (a .args .w .now) (a .pre) k _ (told-write k (t .if1 .taken) small)
+    let a = c .before .before .before .before in
+    let b = a .args .w .now in
+    c .refuses .ensures bad-step b refl ∙ bad-left b (a .pre) (a .args .k) (told-valued (a .args .k) (c .before .if1 .taken))
 
 returns-2 : tie.Need-returns-2
 returns-2 c =
-    let valued = c .before in
-    let t = valued .before .before in
-    let a = t .before .before in
-    let b = a .args .w .now in
-    c .refuses .ensures bad-step b refl ∙ bad-left b (a .pre) (a .args .k) (told-valued (a .args .k) (t .if1 .left) (valued .if2 .taken))
+    let t = c .before .before .before .before in
+    let a = t .before .before .before .before in
+    let k = a .args .k in
+    let small : k .id < 256 = search needs in
+    c .before .before .deliver .ensures ∙ step-left (a .args .w .now) (a .pre) k _ (told-deliver k (t .before .if1 .left) (t .if2 .taken) small)
 
 returns-3 : tie.Need-returns-3
 returns-3 c =
-    let done = c .before .before in
-    let t = done .before .before in
-    let valued = t .before in
-    let a = valued .before .before .before .before in
+    let t = c .before .before .before .before in
+    let a = t .before .before .before .before .before in
     let k = a .args .k in
-    done .relay-acts .ensures ∙ step-left (a .args .w .now) (a .pre) k _ (told-relay k (valued .if2 .left) (t .if3 .taken))
+    let small : k .id < 256 = search needs in
+    c .before .before .drop-place .ensures ∙ step-left (a .args .w .now) (a .pre) k _ (told-drop k (t .before .before .if1 .left) (t .if3 .taken) small)
+
+-- the step is that of its actor
+routes : (c : tie.After-actor) → let a = c .before .before .before .before .before .before in
+    let b = a .args .w .now in
+    let k = a .args .k in
+    left b (routed (worldAt b) (k .kind) (c .actor .result) (k .value)) ≡ lentStep b k
+routes c =
+    let valueless = c .before .before .before in
+    let a = valueless .before .before .before in
+    let b = a .args .w .now in
+    let k = a .args .k in
+    let small : k .value < 4294967296 = search needs in
+    rw (c .actor .ensures) (ap (left b) (sym (acted k (valueless .if1 .left) (worldAt b) (c .before .before .if2 .left) (c .before .if3 .left) small)) ∙ step-left b (a .pre) k _ refl)
 
 returns-4 : tie.Need-returns-4
 returns-4 c =
-    let done = c .before .before in
-    let t = done .before .before in
-    let valued = t .before .before in
-    let a = valued .before .before .before .before in
-    let k = a .args .k in
-    done .desk-acts2 .ensures ∙ step-left (a .args .w .now) (a .pre) k _ (told-read k (valued .if2 .left) (t .if4 .taken))
+    let found = c .before .before in
+    let a = found .before .before .before .before .before .before in
+    c .refuses2 .ensures bad-step (a .args .w .now) refl ∙ (rw (le-ltb (found .actor .result) 12 (c .before .if4 .taken)) at (routes found))
 
 returns-5 : tie.Need-returns-5
 returns-5 c =
-    let done = c .before .before in
-    let t = done .before .before in
-    let valued = t .before .before .before in
-    let a = valued .before .before .before .before in
+    let lives = c .before .before in
+    let low = lives .before .before in
+    let found = low .before in
+    let who = found .actor .result in
+    let b = found .before .before .before .before .before .before .args .w .now in
+    c .refuses3 .ensures dead b refl ∙ dead-left b who _ (sym (lives .alive-at .ensures) ∙ not-true _ (c .before .if5 .taken)) ∙ (rw (lt-ltb who 12 (low .if4 .left)) at (routes found))
+
+-- what its actor does, who is alive
+does : (c : tie.Else5) → let found = c .before .before .before .before in
+    let a = found .before .before .before .before .before .before in
+    let b = a .args .w .now in
     let k = a .args .k in
-    let small : k .id < 256 = search needs in
-    done .deliver .ensures ∙ step-left (a .args .w .now) (a .pre) k _ (told-deliver k (valued .if2 .left) (t .if5 .taken) small)
+    left b (doing (worldAt b) (k .kind) (found .actor .result) (k .value)) ≡ lentStep b k
+does c =
+    let low = c .before .before .before in
+    let found = low .before in
+    let who = found .actor .result in
+    let b = found .before .before .before .before .before .before .args .w .now in
+    alive-left b who _ (sym (c .before .alive-at .ensures) ∙ not-false _ (c .if5 .left)) ∙ (rw (lt-ltb who 12 (low .if4 .left)) at (routes found))
 
 returns-6 : tie.Need-returns-6
 returns-6 c =
-    let done = c .before .before in
-    let t = done .before .before in
-    let valued = t .before .before .before .before in
-    let a = valued .before .before .before .before in
-    let k = a .args .k in
-    let small : k .id < 256 = search needs in
-    done .drop-place .ensures ∙ step-left (a .args .w .now) (a .pre) k _ (told-drop k (valued .if2 .left) (t .if6 .taken) small)
+    let t = c .before .before .before .before in
+    c .before .before .crash .ensures ∙ (rw (eq-eqb _ 8 (t .if6 .taken)) at (does (t .before)))
 
 returns-7 : tie.Need-returns-7
 returns-7 c =
-    let done = c .before .before in
-    let t = done .before .before in
-    let valued = t .before .before .before .before .before in
-    let a = valued .before .before .before .before in
-    let k = a .args .k in
-    done .crash .ensures ∙ step-left (a .args .w .now) (a .pre) k _ (told-crash k (valued .if2 .left) (t .if7 .taken))
+    let t = c .before .before .before .before in
+    c .before .before .relay-acts .ensures ∙ (rw (ne-eqb _ 8 (t .before .if6 .left), lt-ltb _ 8 (t .if7 .taken)) at (does (t .before .before)))
 
 returns-8 : tie.Need-returns-8
 returns-8 c =
-    let i7 = c .before in
-    let i6 = i7 .before in
-    let i5 = i6 .before in
-    let i4 = i5 .before in
-    let i3 = i4 .before in
-    let t = i3 .before .before .before in
-    let a = t .before .before in
-    let b = a .args .w .now in
-    c .refuses2 .ensures bad-step b refl
-    ∙ bad-left b (a .pre) (a .args .k) (told-unkind (a .args .k) (i3 .if3 .left) (i4 .if4 .left) (t .if1 .left) (i5 .if5 .left) (i6 .if6 .left) (i7 .if7 .left))
+    let t = c .before .before .before .before in
+    c .before .before .desk-acts .ensures ∙ (rw (ne-eqb _ 8 (t .before .if6 .left), le-ltb _ 8 (t .if7 .left)) at (does (t .before .before)))
+
+-- the world is good, and the actor one of twelve
+twelve : (c : tie.Else5) → let found = c .before .before .before .before in (goodBytes (found .before .before .before .before .before .before .args .w .now) ≡ true) × (found .actor .result < 12)
+twelve c = (c .before .before .before .before .before .before .before .before .before .before .pre, c .before .before .before .if4 .left)
+
+desk-acts-requires : tie.Need-desk-acts-requires
+desk-acts-requires c κs = let two = twelve (c .before .before .before) in (two .0, omega (arith, two .1))
 
 pub step-good-spec : {M : Type 1} → statement M
-step-good-spec = tie.close (tie.spec (λ c κs. c .before .before .before .pre) (λ c. search needs) returns (λ c κs. tt) returns-2 (λ c κs. c .before .before .before .before .before .before .pre) (λ c. search needs) returns-3 (λ c κs. c .before .before .before .before .before .before .before .pre) (λ c. search needs) returns-4 (λ c κs. c .before .before .before .before .before .before .before .before .pre) (λ c. search needs) returns-5 (λ c κs. c .before .before .before .before .before .before .before .before .before .pre) (λ c. search needs) returns-6 (λ c κs. c .before .before .before .before .before .before .before .before .before .before .pre) (λ c. search needs) returns-7 (λ c κs. tt) returns-8)
+step-good-spec = tie.close (tie.spec (λ c κs. tt) returns (λ c κs. c .before .before .before .before .before .pre) (λ c. search needs) returns-2 (λ c κs. c .before .before .before .before .before .before .pre) (λ c. search needs) returns-3 (λ c κs. tt) (λ c κs. tt) returns-4 (λ c κs. c .before .if4 .left) (λ c κs. tt) (λ c. search needs) returns-5 (λ c κs. twelve (c .before .before)) (λ c. search needs) returns-6
+    (λ c κs. (twelve (c .before .before .before) .0, c .before .if7 .taken)) (λ c. search needs) returns-7 desk-acts-requires (λ c. search needs) returns-8)
