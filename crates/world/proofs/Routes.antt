@@ -1,13 +1,13 @@
 -- How a step is routed: which act it tells, which message a place holds, and what the acts are of their parts. Assumes nothing.
 use mathlib.Core.Path.{_≡_, refl, sym, ap, _∙_}
 use mathlib.Core.Logic.{_≢_, ⊎-elim}
-use mathlib.Core.Bool.{Bool, true, false, not, _&&_, and-false, and-eq-true-iff}
+use mathlib.Core.Bool.{Bool, true, false, not, _&&_, _||_, and-false, and-eq-true-iff}
 use mathlib.Core.List.{List}
 use Prim.Native.Nat.{ℕ, zero, suc, _+_, _*_, _-_, _≤_, _<_}
 use native.Mathlib.Omega.{arith}
 use lib.Dec.{eqb, leb, ltb}
 use borrow.Author.Tests.{ne-eqb, lt-ltb, le-ltb, lt-leb, ltb-true, not-true, not-false}
-use Rattle.views.proofs.Truth.{decided, contrary, cases, either-true}
+use Rattle.views.proofs.Truth.{decided, contrary, cases, either-true, neither-true}
 use Rattle.views.proofs.Sets.{member-lt}
 use Rattle.rules.specs.Sets.{if_then_else_, member}
 use Rattle.rules.specs.Messages.{Body, request, view, proposal, converged, install, state, get, put, viewReply, pairReply, ack, Message, Answer, dead, empty, bad-step, bad-world}
@@ -204,27 +204,18 @@ to-below m (ack try) g = replied-below m (hold-facts _ g .1 .0)
 
 -- ---- what a message is about, by its kind
 
-abbrev NoView : Body → Type 0
-NoView x = 0 ≡ generatorOfBody x
-
-abbrev NoMove : Body → Type 0
-NoMove x = moveOfBody x ≡ move 0 0
+abbrev AboutNone : Body → Type 0
+AboutNone x = (0 ≡ generatorOfBody x) × (move 0 0 ≡ moveOfBody x)
 
 module _ (b : code-body.Body) where
-  pub about-none : b .kind ≢ 3 → b .kind ≢ 4 → b .kind ≢ 5 → b .kind ≢ 6 → 0 ≡ generatorOfBody (bodyOf b)
+  pub about-none : eqb (b .kind) 5 || eqb (b .kind) 6 ≡ false → eqb (b .kind) 3 || eqb (b .kind) 4 ≡ false → AboutNone (bodyOf b)
   unfolding bodyOf bodyIn
-  about-none c d e f =
-      rw (ne-eqb (b .kind) 3 c, ne-eqb (b .kind) 4 d, ne-eqb (b .kind) 5 e, ne-eqb (b .kind) 6 f)
-      (cases NoView (eqb (b .kind) 1) (λ _. refl) (λ _. cases NoView (eqb (b .kind) 2) (λ _. refl) (λ _. cases NoView (eqb (b .kind) 7) (λ _. refl)
-      (λ _. cases NoView (eqb (b .kind) 8) (λ _. refl) (λ _. cases NoView (eqb (b .kind) 9) (λ _. refl) (λ _. cases NoView (eqb (b .kind) 10) (λ _. refl) (λ _. refl)))))))
-
-  pub about-still : b .kind ≢ 5 → b .kind ≢ 6 → moveOfBody (bodyOf b) ≡ move 0 0
-  unfolding bodyOf bodyIn
-  about-still e f =
-      rw (ne-eqb (b .kind) 5 e, ne-eqb (b .kind) 6 f)
-      (cases NoMove (eqb (b .kind) 1) (λ _. refl) (λ _. cases NoMove (eqb (b .kind) 2) (λ _. refl) (λ _. cases NoMove (eqb (b .kind) 3) (λ _. refl)
-      (λ _. cases NoMove (eqb (b .kind) 4) (λ _. refl) (λ _. cases NoMove (eqb (b .kind) 7) (λ _. refl) (λ _. cases NoMove (eqb (b .kind) 8) (λ _. refl)
-      (λ _. cases NoMove (eqb (b .kind) 9) (λ _. refl) (λ _. cases NoMove (eqb (b .kind) 10) (λ _. refl) (λ _. refl)))))))))
+  about-none c d =
+      let e = neither-true (eqb (b .kind) 5) (eqb (b .kind) 6) c in
+      let f = neither-true (eqb (b .kind) 3) (eqb (b .kind) 4) d in
+      rw (f .0, f .1, e .0, e .1)
+      (cases AboutNone (eqb (b .kind) 1) (λ _. (refl, refl)) (λ _. cases AboutNone (eqb (b .kind) 2) (λ _. (refl, refl)) (λ _. cases AboutNone (eqb (b .kind) 7) (λ _. (refl, refl))
+      (λ _. cases AboutNone (eqb (b .kind) 8) (λ _. (refl, refl)) (λ _. cases AboutNone (eqb (b .kind) 9) (λ _. (refl, refl)) (λ _. cases AboutNone (eqb (b .kind) 10) (λ _. (refl, refl)) (λ _. (refl, refl))))))))
 
 -- ---- DROP, and any step of good bytes
 

@@ -14,7 +14,7 @@ ghost use Rattle.state.specs.Meaning.{partOf, bodyOf, messageOf, eventOf};
 ghost use Rattle.state.specs.Plans.{planOf, deskPlanOf, planned};
 ghost use Rattle.relay.specs.Fitting.{showsView};
 ghost use Rattle.world.specs.Answer.{lentOf, accepted};
-ghost use Rattle.world.specs.Narrow.{generatorOfBody, moveOfBody};
+ghost use Rattle.world.specs.Narrow.{generatorOfBody, move, moveOfBody};
 ghost use Rattle.world.specs.Commits.{delivered, fewer, relayLeft, deskLeft, relayAsked, relayActs, deskAsked, deskActs, actorOf};
 use rules::Desk;
 use rules::Step;
@@ -184,46 +184,35 @@ fn desk_acts(w: &mut [u8], kind: u8, n: u8, x: u32) -> Answer
 // ---- delivery
 
 // Which generator, and which transfer, a message is about; 0 where none.
-fn generator_of(b: Body) -> u16
-    ensures { λ r. ⌜ r ≡ generatorOfBody (bodyOf b) ⌝ }
-{
-    if b.kind == 3 {
-        return b.first;
-    }
-    if b.kind == 4 {
-        return b.first;
-    }
-    if b.kind == 5 {
-        return b.second;
-    }
-    if b.kind == 6 {
-        return b.second;
-    }
-    0
+struct About {
+    generator: u16,
+    old: u16,
+    new: u16,
 }
 
-fn old_of(b: Body) -> u16
-    ensures { λ r. ⌜ r ≡ moveOfBody (bodyOf b) .old ⌝ }
+fn about_of(b: Body) -> About
+    ensures { λ r. ⌜ (r .generator ≡ generatorOfBody (bodyOf b)) × (move (r .old) (r .new) ≡ moveOfBody (bodyOf b)) ⌝ }
 {
-    if b.kind == 5 {
-        return b.first;
+    let kind = b.kind;
+    if (kind == 5) | (kind == 6) {
+        return About {
+            generator: b.second,
+            old: b.first,
+            new: b.second,
+        };
     }
-    if b.kind == 6 {
-        return b.first;
+    if (kind == 3) | (kind == 4) {
+        return About {
+            generator: b.first,
+            old: 0,
+            new: 0,
+        };
     }
-    0
-}
-
-fn new_of(b: Body) -> u16
-    ensures { λ r. ⌜ r ≡ moveOfBody (bodyOf b) .new ⌝ }
-{
-    if b.kind == 5 {
-        return b.second;
+    About {
+        generator: 0,
+        old: 0,
+        new: 0,
     }
-    if b.kind == 6 {
-        return b.second;
-    }
-    0
 }
 
 fn to_relay(w: &mut [u8], p: usize, m: Message) -> Answer
@@ -233,7 +222,8 @@ fn to_relay(w: &mut [u8], p: usize, m: Message) -> Answer
     let to = m.to;
     let from = m.from;
     let body = m.body;
-    let part = reads::part_at(w, to, generator_of(body), old_of(body), new_of(body));
+    let about = about_of(body);
+    let part = reads::part_at(w, to, about.generator, about.old, about.new);
     let plan = relay::hears(to, part, from, body);
     relay_commits(w, to, p, plan)
 }

@@ -22,10 +22,8 @@ returns c =
     let done = c .before .before in
     let asked = done .before .before in
     let part = asked .before in
-    let new = part .before in
-    let old = new .before in
-    let gen-of = old .before in
-    let at = gen-of .before .before .before .before in
+    let about = part .before .before in
+    let at = about .before .before .before in
     let b = at .args .w .now in
     let p = at .args .p in
     let m = messageOf (at .args .m) in
@@ -36,10 +34,9 @@ returns c =
     let ask = relayHears s shown (at .args .m .from) x in
     let held = at .pre .1 .1 .0 in
     done .relay-commits .ensures 1 ask
-    (asked .hears .ensures ∙ ap (planned noRelay) (rw (part .part-at .ensures, gen-of .generator-of .ensures, old .old-of .ensures, new .new-of .ensures) (hears-fits s r m x (good-relay b (at .pre .0) s) refl (held-good b (at .pre .0) p (at .pre .1 .0) m held))))
+    (asked .hears .ensures ∙ ap (planned noRelay) (rw (part .part-at .ensures, about .about-of .ensures .0, about .about-of .ensures .1) (hears-fits s r m x (good-relay b (at .pre .0) s) refl (held-good b (at .pre .0) p (at .pre .1 .0) m held))))
     (few-test 2 ask (hears-few s shown (at .args .m .from) x)) (held-delivered b (at .pre .0) p (at .pre .1 .0) m held)
     ∙ to-relay-left b (at .pre .0) p (at .pre .1 .0) m (at .pre .1 .1 .1) ask (hears-wide s r (at .args .m .from) x)
 
 pub to-relay-spec : {M : Type 1} → statement M
-to-relay-spec = tie.close (tie.spec (λ c κs. tt) (λ c κs. tt) (λ c κs. tt) (λ c κs. let at = c .before .before .before .before .before .before in (at .pre .0, at .pre .1 .1 .1)) (λ c κs. tt)
-    (λ c κs. let at = c .before .before .before .before .before .before .before .before .before in (at .pre .0, at .pre .1 .1 .1)) (λ c. search needs) returns)
+to-relay-spec = tie.close (tie.spec (λ c κs. tt) (λ c κs. let at = c .before .before .before .before in (at .pre .0, at .pre .1 .1 .1)) (λ c κs. tt) (λ c κs. let at = c .before .before .before .before .before .before .before in (at .pre .0, at .pre .1 .1 .1)) (λ c. search needs) returns)
