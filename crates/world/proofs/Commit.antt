@@ -7,26 +7,25 @@ use Prim.Native.Nat.{ℕ, _+_, _*_, _≤_, _<_}
 use native.Mathlib.Omega.{arith}
 use lib.Dec.{leb, ltb}
 use lib.ListN.{length, length-append}
-use borrow.Author.Tests.{leb-true, le-leb}
 use Rattle.views.proofs.Truth.{decided}
 use Rattle.rows.specs.Bytes.{placed}
 use Rattle.rows.proofs.Laws.{placed-fits}
 use Rattle.rules.specs.Sets.{if_then_else_}
-use Rattle.rules.specs.Messages.{Message, Sending, copies, outgoing, Event, Refusal, bad-world, bad-step, empty, dead, not-now, not-yet, worn, no-room, number, Answer, refused, does}
+use Rattle.rules.specs.Messages.{Sending, copies, outgoing, Event, Refusal, bad-world, bad-step, empty, dead, not-now, not-yet, worn, no-room, number, Answer, refused, does}
 use Rattle.rules.specs.State.{Relay, noRelay, noDesk, World, relayAt, withRelay, withDesk, withPlaces}
 use Rattle.rules.specs.declared.Desk.{Desk}
 use Rattle.rules.specs.Sending.{placeAll, freeIn}
 use Rattle.rules.specs.Steps.{reports, roomy, relayDoes, deskDoes, freed}
 use Rattle.rules.specs.Image.{deskBytes, image, worldAt, goodBytes}
-use Rattle.rules.specs.Lent.{Lent, kept}
+use Rattle.rules.specs.Lent.{kept}
 use Rattle.rules.proofs.ImageWidths.{length-desk, length-image}
 use Rattle.rules.proofs.ImageWorld.{good-image}
 use Rattle.rules.proofs.ImageWrite.{put-desk}
-use Rattle.state.specs.Plans.{Planned, noSending, sendingAt, planned}
+use Rattle.state.specs.Plans.{Planned, noSending, planned}
 use Rattle.world.specs.Answer.{accepted}
 use Rattle.world.specs.Narrow.{widened}
-use Rattle.world.specs.Commits.{freeRows, receiversBelow, freedAt, delivered, fewer, relayLeft, deskLeft}
-use Rattle.world.proofs.NarrowFew.{Few, none-copied, one-out, two-out}
+use Rattle.world.specs.Commits.{freeRows, receiversBelow, freedAt, delivered, Few, relayLeft, deskLeft}
+use Rattle.world.proofs.NarrowFew.{none-copied, two-out}
 use Rattle.world.proofs.Places.{free-rows, freed-rooms, freed-long, places-long, places-append, copies-length}
 use Rattle.world.proofs.Good.{shaped}
 
@@ -42,11 +41,27 @@ some-number not-yet e = omega arith
 some-number worn e = omega arith
 some-number no-room e = omega arith
 
-module _ {A : Type 0} (k : ℕ) where
-  pub few-test : (a : Answer A) → Few k a → fewer k a ≡ true
-  unfolding Few
-  few-test (refused x) h = refl
-  few-test (does a ss e) h = le-leb (length ss) k h
+-- a plan is that of a refusal, or of what is done
+pub record Refuses {A : Type 0} (a : Answer A) (plan : Planned A) : Type 0 where
+  pub why : Refusal
+  pub is : a ≡ refused why
+  pub numbered : plan .answer ≡ number why
+
+record Does {A : Type 0} (a : Answer A) (plan : Planned A) : Type 0 where
+  sendings : List Sending
+  is : a ≡ does (plan .next) sendings (plan .event)
+  out : (from : ℕ) → outgoing from sendings ≡ copies from (plan .first) ++ copies from (plan .second)
+
+module _ {A : Type 0} (blank : A) where
+  pub plan-refuses : (a : Answer A) (plan : Planned A) → plan ≡ planned blank a → plan .answer ≢ 0 → Refuses a plan
+  unfolding planned
+  plan-refuses (refused x) plan e n = record { why = x; is = refl; numbered = rw e }
+  plan-refuses (does m ss ev) plan e n = absurd (n (rw e))
+
+  plan-does : (a : Answer A) (plan : Planned A) → plan ≡ planned blank a → Few a → plan .answer ≡ 0 → Does a plan
+  unfolding planned Few
+  plan-does (refused x) plan e f z = absurd (some-number x (rw e at z))
+  plan-does (does m ss ev) plan e f z = rw e (record { sendings = ss; is = refl; out = λ from. two-out from ss f })
 
 -- ---- the world after it: the delivered place freed, then what is sent
 
@@ -79,6 +94,10 @@ desk-freed w p n d = ⊎-elim (λ t. rw t) (λ t. rw t) (decided (ltb p 256))
 
 -- ---- NO ROOM for messages
 
+-- a plan's two sendings find room
+abbrev pub rooms-for : {A : Type 0} → List ℕ → ℕ → Planned A → Bool
+rooms-for b p plan = leb (length (receiversBelow (plan .first .receivers) 12) + length (receiversBelow (plan .second .receivers) 12)) (freeRows b 256 + (if ltb p 256 then 1 else 0))
+
 module _ (b : List ℕ) (good : goodBytes b ≡ true) (p : ℕ) (d : delivered (worldAt b) p ≡ true) where
   rooms : freeRows b 256 + (if ltb p 256 then 1 else 0) ≡ freeIn (freedAt (worldAt b) p .places)
   rooms =
@@ -86,52 +105,41 @@ module _ (b : List ℕ) (good : goodBytes b ≡ true) (p : ℕ) (d : delivered (
       ap (λ (l : List ℕ). freeRows l 256 + (if ltb p 256 then 1 else 0)) (sym (good-image b good))
       ∙ rw (free-rows (worldAt b) long) (sym (freed-rooms (worldAt b) long p d))
 
-  pub room-of : (from : ℕ) (x y : Sending) → leb (length (receiversBelow (x .receivers) 12) + length (receiversBelow (y .receivers) 12)) (freeRows b 256 + (if ltb p 256 then 1 else 0))
-      ≡ roomy (freedAt (worldAt b) p) (copies from x ++ copies from y)
+  room-of : {A : Type 0} (plan : Planned A) (from : ℕ) → roomy (freedAt (worldAt b) p) (copies from (plan .first) ++ copies from (plan .second)) ≡ rooms-for b p plan
   unfolding roomy
-  room-of from x y = rw (rooms, length-append (copies from x) (copies from y), copies-length from x, copies-length from y)
+  room-of plan from = rw (rooms, length-append (copies from (plan .first)) (copies from (plan .second)), copies-length from (plan .first), copies-length from (plan .second))
 
--- ---- a relay
+-- ---- a relay, and a desk: `plan` is the one that the answer a asks for
 
-module _ (b : List ℕ) (good : goodBytes b ≡ true) (p s k : ℕ) (a : Answer Relay) where
-  pub relay-refused : (x : Refusal) → a ≡ refused x → kept x b ≡ relayLeft b k p s a
+module _ (b : List ℕ) (good : goodBytes b ≡ true) (p s k : ℕ) (a : Answer Relay) (plan : Planned Relay)
+    (e : plan ≡ planned noRelay a) (few : Few a) (d : delivered (worldAt b) p ≡ true) (z : plan .answer ≡ 0) where
+  abbrev w : World
+  w = worldAt b
+
+  abbrev made : Relay
+  made = widened (relayAt w s) (plan .next)
+
+  abbrev seats : Bool
+  seats = leb (length (made .generators)) 8 && leb (length (made .transfers)) 8
+
+  to-do : Does a plan
+  to-do = plan-does noRelay a plan e few z
+
+  pub relay-crowded : rooms-for b p plan ≡ false → kept no-room b ≡ relayLeft b k p s a
   unfolding relayLeft relayDoes
-  relay-refused x e = rw e
+  relay-crowded r = rw (to-do .is, to-do .out s, room-of b good p d plan s ∙ r)
 
-  module _ (n : Relay) (ss : List Sending) (ev : Event) (is : a ≡ does n ss ev) (few : length ss ≤ 2) where
-    abbrev w : World
-    w = worldAt b
+  pub relay-unseated : seats ≡ false → kept no-room b ≡ relayLeft b k p s a
+  unfolding relayLeft relayDoes
+  relay-unseated r = rw (to-do .is, r, and-false (roomy (freedAt w p) (outgoing s (to-do .sendings))))
 
-    abbrev r : Relay
-    r = widened (relayAt w s) n
+  pub relay-done : rooms-for b p plan ≡ true → seats ≡ true → (l : List ℕ)
+      → l ≡ image (withPlaces (freedAt (withRelay w s made) p) (placeAll (copies s (plan .first) ++ copies s (plan .second)) (freedAt (withRelay w s made) p .places)))
+      → accepted (reports (plan .event) s) l ≡ relayLeft b k p s a
+  unfolding relayLeft relayDoes
+  relay-done r t l q = rw (to-do .is, to-do .out s, room-of b good p d plan s ∙ r, t, q, relay-freed w p s made)
 
-    abbrev seats : Bool
-    seats = leb (length (r .generators)) 8 && leb (length (r .transfers)) 8
-
-    abbrev ms : List Message
-    ms = copies s (sendingAt ss 0) ++ copies s (sendingAt ss 1)
-
-    pub relay-crowded : roomy (freedAt w p) ms ≡ false → kept no-room b ≡ relayLeft b k p s a
-    unfolding relayLeft relayDoes
-    relay-crowded e = rw (is, two-out s ss few, e)
-
-    pub relay-unseated : seats ≡ false → kept no-room b ≡ relayLeft b k p s a
-    unfolding relayLeft relayDoes
-    relay-unseated e = rw (is, e, and-false (roomy (freedAt w p) (outgoing s ss)))
-
-    pub relay-done : roomy (freedAt w p) ms ≡ true → seats ≡ true → (l : List ℕ)
-        → l ≡ image (withPlaces (freedAt (withRelay w s r) p) (placeAll ms (freedAt (withRelay w s r) p .places)))
-        → accepted (reports ev s) l ≡ relayLeft b k p s a
-    unfolding relayLeft relayDoes
-    relay-done e f l q = rw (is, two-out s ss few, e, f, q, relay-freed w p s r)
-
--- ---- a desk
-
-module _ (b : List ℕ) (good : goodBytes b ≡ true) (p n k : ℕ) (a : Answer Desk) where
-  pub desk-refused : (x : Refusal) → a ≡ refused x → kept x b ≡ deskLeft b k p n a
-  unfolding deskLeft deskDoes
-  desk-refused x e = rw e
-
+module _ (b : List ℕ) (good : goodBytes b ≡ true) (n : ℕ) where
   pub desk-put : n < 4 → (d : Desk) → placed b (43520 + n * 64) (deskBytes d) ≡ image (withDesk (worldAt b) n d)
   desk-put h d =
       let w = worldAt b in
@@ -139,100 +147,22 @@ module _ (b : List ℕ) (good : goodBytes b ≡ true) (p n k : ℕ) (a : Answer 
       ∙ placed-fits (image w) (deskBytes d) (43520 + n * 64) (omega (arith, length-desk d, length-image w))
       ∙ put-desk w (shaped b good) n d h
 
-  module _ (next : Desk) (ss : List Sending) (ev : Event) (is : a ≡ does next ss ev) (few : length ss ≤ 1) where
-    abbrev v : World
-    v = worldAt b
+module _ (b : List ℕ) (good : goodBytes b ≡ true) (p n k : ℕ) (a : Answer Desk) (plan : Planned Desk)
+    (e : plan ≡ planned noDesk a) (few : Few a) (d : delivered (worldAt b) p ≡ true) (z : plan .answer ≡ 0) where
+  abbrev v : World
+  v = worldAt b
 
-    pub desk-crowded : roomy (freedAt v p) (copies (8 + n) (sendingAt ss 0)) ≡ false → kept no-room b ≡ deskLeft b k p n a
-    unfolding deskLeft deskDoes
-    desk-crowded e = rw (is, one-out (8 + n) ss few, e)
+  asked : Does a plan
+  asked = plan-does noDesk a plan e few z
 
-    pub desk-done : roomy (freedAt v p) (copies (8 + n) (sendingAt ss 0)) ≡ true → (l : List ℕ)
-        → l ≡ image (withPlaces (freedAt (withDesk v n next) p) (placeAll (copies (8 + n) (sendingAt ss 0)) (freedAt (withDesk v n next) p .places)))
-        → accepted (reports ev n) l ≡ deskLeft b k p n a
-    unfolding deskLeft deskDoes
-    desk-done e l q = rw (is, one-out (8 + n) ss few, e, q, desk-freed v p n next)
+  pub desk-crowded : rooms-for b p plan ≡ false → kept no-room b ≡ deskLeft b k p n a
+  unfolding deskLeft deskDoes
+  desk-crowded r = rw (asked .is, asked .out (8 + n), room-of b good p d plan (8 + n) ∙ r)
 
--- ---- all by the plan: `plan` is the one that the answer a asks for
-
--- its two sendings find room
-abbrev pub rooms-for : {A : Type 0} → List ℕ → ℕ → Planned A → Bool
-rooms-for b p plan = leb (length (receiversBelow (plan .first .receivers) 12) + length (receiversBelow (plan .second .receivers) 12)) (freeRows b 256 + (if ltb p 256 then 1 else 0))
-
-module _ (b : List ℕ) (good : goodBytes b ≡ true) (p s k : ℕ) (a : Answer Relay) (plan : Planned Relay) (e : plan ≡ planned noRelay a) where
-  abbrev made : Relay
-  made = widened (relayAt (worldAt b) s) (plan .next)
-
-  pub plan-refused : plan .answer ≢ 0 → (l : Lent) → ((x : Refusal) → plan .answer ≡ number x → l ≡ kept x b) → l ≡ relayLeft b k p s a
-  plan-refused = rw e (go a)
-    where
-      go : (a : Answer Relay) → planned noRelay a .answer ≢ 0 → (l : Lent) → ((x : Refusal) → planned noRelay a .answer ≡ number x → l ≡ kept x b) → l ≡ relayLeft b k p s a
-      go (refused x) n l f = f x (unfold planned in refl) ∙ relay-refused b good p s k (refused x) x refl
-      go (does m ss ev) n l f = absurd (n (unfold planned in refl))
-
-  module _ (few : fewer 2 a ≡ true) (d : delivered (worldAt b) p ≡ true) where
-    pub plan-crowded : plan .answer ≡ 0 → rooms-for b p plan ≡ false → kept no-room b ≡ relayLeft b k p s a
-    plan-crowded = rw e (go a few)
-      where
-        go : (a : Answer Relay) → fewer 2 a ≡ true → planned noRelay a .answer ≡ 0 → rooms-for b p (planned noRelay a) ≡ false → kept no-room b ≡ relayLeft b k p s a
-        go (refused x) f z r = absurd (some-number x (unfold planned in z))
-        go (does m ss ev) f z r =
-            relay-crowded b good p s k (does m ss ev) m ss ev refl (leb-true (length ss) 2 f) (sym (room-of b good p d s (sendingAt ss 0) (sendingAt ss 1)) ∙ (unfold planned in r))
-
-    pub plan-unseated : plan .answer ≡ 0 → leb (length (made .generators)) 8 && leb (length (made .transfers)) 8 ≡ false → kept no-room b ≡ relayLeft b k p s a
-    plan-unseated = rw e (go a few)
-      where
-        go : (a : Answer Relay) → fewer 2 a ≡ true → planned noRelay a .answer ≡ 0
-            → leb (length (widened (relayAt (worldAt b) s) (planned noRelay a .next) .generators)) 8 && leb (length (widened (relayAt (worldAt b) s) (planned noRelay a .next) .transfers)) 8 ≡ false
-            → kept no-room b ≡ relayLeft b k p s a
-        go (refused x) f z r = absurd (some-number x (unfold planned in z))
-        go (does m ss ev) f z r = relay-unseated b good p s k (does m ss ev) m ss ev refl (leb-true (length ss) 2 f) (unfold planned in r)
-
-    pub plan-done : plan .answer ≡ 0 → rooms-for b p plan ≡ true → leb (length (made .generators)) 8 && leb (length (made .transfers)) 8 ≡ true → (l : List ℕ)
-        → l ≡ image (withPlaces (freedAt (withRelay (worldAt b) s made) p) (placeAll (copies s (plan .first) ++ copies s (plan .second)) (freedAt (withRelay (worldAt b) s made) p .places)))
-        → accepted (reports (plan .event) s) l ≡ relayLeft b k p s a
-    plan-done = rw e (go a few)
-      where
-        go : (a : Answer Relay) → fewer 2 a ≡ true → planned noRelay a .answer ≡ 0 → rooms-for b p (planned noRelay a) ≡ true
-            → leb (length (widened (relayAt (worldAt b) s) (planned noRelay a .next) .generators)) 8 && leb (length (widened (relayAt (worldAt b) s) (planned noRelay a .next) .transfers)) 8 ≡ true
-            → (l : List ℕ)
-            → l ≡ image (withPlaces (freedAt (withRelay (worldAt b) s (widened (relayAt (worldAt b) s) (planned noRelay a .next))) p) (placeAll (copies s (planned noRelay a .first) ++ copies s (planned noRelay a .second)) (freedAt (withRelay (worldAt b) s (widened (relayAt (worldAt b) s) (planned noRelay a .next))) p .places)))
-            → accepted (reports (planned noRelay a .event) s) l ≡ relayLeft b k p s a
-        go (refused x) f z r t l q = absurd (some-number x (unfold planned in z))
-        go (does m ss ev) f z r t l q =
-            unfold planned in
-            (relay-done b good p s k (does m ss ev) m ss ev refl (leb-true (length ss) 2 f) (sym (room-of b good p d s (sendingAt ss 0) (sendingAt ss 1)) ∙ r) t l q)
-
-module _ (b : List ℕ) (good : goodBytes b ≡ true) (p n k : ℕ) (a : Answer Desk) (plan : Planned Desk) (e : plan ≡ planned noDesk a) where
-  pub desk-plan-refused : plan .answer ≢ 0 → (l : Lent) → ((x : Refusal) → plan .answer ≡ number x → l ≡ kept x b) → l ≡ deskLeft b k p n a
-  desk-plan-refused = rw e (go a)
-    where
-      go : (a : Answer Desk) → planned noDesk a .answer ≢ 0 → (l : Lent) → ((x : Refusal) → planned noDesk a .answer ≡ number x → l ≡ kept x b) → l ≡ deskLeft b k p n a
-      go (refused x) z l f = f x (unfold planned in refl) ∙ desk-refused b good p n k (refused x) x refl
-      go (does m ss ev) z l f = absurd (z (unfold planned in refl))
-
-  module _ (few : fewer 1 a ≡ true) (d : delivered (worldAt b) p ≡ true) where
-    one-room : (x : Sending) → leb (length (receiversBelow (x .receivers) 12) + length (receiversBelow 0 12)) (freeRows b 256 + (if ltb p 256 then 1 else 0)) ≡ roomy (freedAt (worldAt b) p) (copies (8 + n) x)
-    one-room x = room-of b good p d (8 + n) x noSending ∙ ap (roomy (freedAt (worldAt b) p)) (ap (λ (l : List Message). copies (8 + n) x ++ l) (none-copied (8 + n)) ∙ append-nil (copies (8 + n) x))
-
-    pub desk-plan-crowded : plan .answer ≡ 0
-        → leb (length (receiversBelow (plan .first .receivers) 12) + length (receiversBelow 0 12)) (freeRows b 256 + (if ltb p 256 then 1 else 0)) ≡ false → kept no-room b ≡ deskLeft b k p n a
-    desk-plan-crowded = rw e (go a few)
-      where
-        go : (a : Answer Desk) → fewer 1 a ≡ true → planned noDesk a .answer ≡ 0
-            → leb (length (receiversBelow (planned noDesk a .first .receivers) 12) + length (receiversBelow 0 12)) (freeRows b 256 + (if ltb p 256 then 1 else 0)) ≡ false → kept no-room b ≡ deskLeft b k p n a
-        go (refused x) f z r = absurd (some-number x (unfold planned in z))
-        go (does m ss ev) f z r = desk-crowded b good p n k (does m ss ev) m ss ev refl (leb-true (length ss) 1 f) (sym (one-room (sendingAt ss 0)) ∙ (unfold planned in r))
-
-    pub desk-plan-done : plan .answer ≡ 0
-        → leb (length (receiversBelow (plan .first .receivers) 12) + length (receiversBelow 0 12)) (freeRows b 256 + (if ltb p 256 then 1 else 0)) ≡ true → (l : List ℕ)
-        → l ≡ image (withPlaces (freedAt (withDesk (worldAt b) n (plan .next)) p) (placeAll (copies (8 + n) (plan .first)) (freedAt (withDesk (worldAt b) n (plan .next)) p .places)))
-        → accepted (reports (plan .event) n) l ≡ deskLeft b k p n a
-    desk-plan-done = rw e (go a few)
-      where
-        go : (a : Answer Desk) → fewer 1 a ≡ true → planned noDesk a .answer ≡ 0
-            → leb (length (receiversBelow (planned noDesk a .first .receivers) 12) + length (receiversBelow 0 12)) (freeRows b 256 + (if ltb p 256 then 1 else 0)) ≡ true → (l : List ℕ)
-            → l ≡ image (withPlaces (freedAt (withDesk (worldAt b) n (planned noDesk a .next)) p) (placeAll (copies (8 + n) (planned noDesk a .first)) (freedAt (withDesk (worldAt b) n (planned noDesk a .next)) p .places)))
-            → accepted (reports (planned noDesk a .event) n) l ≡ deskLeft b k p n a
-        go (refused x) f z r l q = absurd (some-number x (unfold planned in z))
-        go (does m ss ev) f z r l q = unfold planned in (desk-done b good p n k (does m ss ev) m ss ev refl (leb-true (length ss) 1 f) (sym (one-room (sendingAt ss 0)) ∙ r) l q)
+  -- it sends one thing
+  pub desk-done : plan .second ≡ noSending → rooms-for b p plan ≡ true → (l : List ℕ)
+      → l ≡ image (withPlaces (freedAt (withDesk v n (plan .next)) p) (placeAll (copies (8 + n) (plan .first)) (freedAt (withDesk v n (plan .next)) p .places)))
+      → accepted (reports (plan .event) n) l ≡ deskLeft b k p n a
+  unfolding deskLeft deskDoes
+  desk-done o r l q =
+      rw (asked .is, asked .out (8 + n), room-of b good p d plan (8 + n) ∙ r, o, none-copied (8 + n), append-nil (copies (8 + n) (plan .first)), q, desk-freed v p n (plan .next))

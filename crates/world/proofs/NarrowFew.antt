@@ -1,5 +1,5 @@
--- A relay sends at most two things in a step, a desk at most one: what goes out is the copies of the first and of the second. Assumes nothing.
-use mathlib.Core.Path.{_≡_, refl, subst}
+-- A relay or a desk sends at most two things in a step: what goes out is the copies of the first and of the second. Assumes nothing.
+use mathlib.Core.Path.{_≡_, refl}
 use mathlib.Core.Bool.{_&&_}
 use mathlib.Core.List.{List, [], _∷_, _++_, append-nil}
 use Prim.Native.Nat.{ℕ, _≤_}
@@ -18,7 +18,7 @@ use Rattle.rules.specs.Relays.{relayHears}
 use Rattle.rules.specs.Desks.{isIdle, isFirst, isSecond, full, begins, readAsked, writeAsked, current, viewCame, notesPair, notesAck, stamps, completes, counted, pairCame, ackCame, deskHears}
 use Rattle.state.specs.Plans.{noSending, sendingAt}
 use Rattle.world.specs.Narrow.{Move, widens}
-use Rattle.world.specs.Commits.{relayAsked, deskAsked}
+use Rattle.world.specs.Commits.{Few, relayAsked, deskAsked}
 use Rattle.world.proofs.NarrowWide.{hears-wide, asked-wide}
 use Rattle.world.proofs.NarrowLocal.{LocalAnswer, hears-local, asked-local}
 
@@ -29,12 +29,6 @@ module _ (from : ℕ) where
   unfolding copies those
   none-copied = refl
 
-  pub one-out : (ss : List Sending) → length ss ≤ 1 → outgoing from ss ≡ copies from (sendingAt ss 0)
-  unfolding outgoing
-  one-out [] h = rw none-copied
-  one-out (a ∷ []) h = append-nil (copies from a)
-  one-out (a ∷ b ∷ ss) h = absurd (omega arith)
-
   pub two-out : (ss : List Sending) → length ss ≤ 2 → outgoing from ss ≡ copies from (sendingAt ss 0) ++ copies from (sendingAt ss 1)
   unfolding outgoing
   two-out [] h = rw none-copied
@@ -42,40 +36,30 @@ module _ (from : ℕ) where
   two-out (a ∷ b ∷ []) h = rw (append-nil (copies from b))
   two-out (a ∷ b ∷ c ∷ ss) h = absurd (omega arith)
 
--- ---- an answer that sends at most k
+-- ---- an answer that sends at most two
 
-unfoldable pub Few : {A : Type 0} → ℕ → Answer A → Type 0
-Few k (refused x) = Unit {0}
-Few k (does a ss e) = length ss ≤ k
-
-module _ {A : Type 0} (k : ℕ) where
-  pub few-does : (a : A) (ss : List Sending) (e : Event) → length ss ≤ k → Few k (does a ss e)
-  unfolding Few
-  few-does a ss e h = h
-
-  -- of an answer that is known
-  pub few-sent : {b : Answer A} {a : A} {ss : List Sending} {e : Event} → Few k b → b ≡ does a ss e → length ss ≤ k
-  unfolding Few
-  few-sent h e = subst (Few k) e h
+few-does : {A : Type 0} (a : A) (ss : List Sending) (e : Event) → length ss ≤ 2 → Few (does a ss e)
+unfolding Few
+few-does a ss e h = h
 
 -- ---- relays
 
-few-wide : (r : Relay) (x v : ℕ) (m : Move) (k : ℕ) (a b : Answer Relay) → a ≡ widens r b → LocalAnswer x v m k b → Few k a
+few-wide : (r : Relay) (x v : ℕ) (m : Move) (a b : Answer Relay) → a ≡ widens r b → LocalAnswer x v m 2 b → Few a
 unfolding LocalAnswer Few
-few-wide r x v m k a (refused y) e h = rw e tt
-few-wide r x v m k a (does n ss y) e h = rw e (h .few)
+few-wide r x v m a (refused y) e h = rw e tt
+few-wide r x v m a (does n ss y) e h = rw e (h .few)
 
 module _ (s : ℕ) (r : Relay) where
-  pub hears-few : (from : ℕ) (b : Body) → Few 2 (relayHears s r from b)
-  hears-few from b = few-wide r _ _ _ 2 _ _ (hears-wide s r from b) (hears-local r s from b)
+  pub hears-few : (from : ℕ) (b : Body) → Few (relayHears s r from b)
+  hears-few from b = few-wide r _ _ _ _ _ (hears-wide s r from b) (hears-local r s from b)
 
-  pub asked-few : (kind : ℕ) → Few 2 (relayAsked kind s r)
-  asked-few kind = few-wide r _ _ _ 2 _ _ (asked-wide kind s r) (asked-local r kind s)
+  pub asked-few : (kind : ℕ) → Few (relayAsked kind s r)
+  asked-few kind = few-wide r _ _ _ _ _ (asked-wide kind s r) (asked-local r kind s)
 
 -- ---- desks
 
 abbrev Once : Answer Desk → Type 0
-Once a = Few 1 a
+Once a = Few a
 
 refuses-few : (x : Refusal) → Once (refused x)
 unfolding Few
@@ -83,7 +67,7 @@ refuses-few x = tt
 
 begins-few : (d : Desk) (ph : Phase) (v : ℕ) (p : Pair) → Once (begins d ph v p)
 unfolding begins
-begins-few d ph v p = cases (Few 1) (full (d .tries)) (λ _. refuses-few _) (λ _. few-does 1 _ _ _ (lit≤ tt))
+begins-few d ph v p = cases Once (full (d .tries)) (λ _. refuses-few _) (λ _. few-does _ _ _ (lit≤ tt))
 
 idle-few : (d : Desk) (ph : Phase) (v : ℕ) (p : Pair) (x : Refusal) → Once (if isIdle (d .phase) then begins d ph v p else refused x)
 idle-few d ph v p x = cases Once (isIdle (d .phase)) (λ _. begins-few d ph v p) (λ _. refuses-few x)
@@ -93,26 +77,26 @@ unfolding deskAsked readAsked writeAsked
 desk-asked-few kind x d = cases Once (eqb kind 5) (λ _. idle-few d _ _ _ _) (λ _. idle-few d _ _ _ _)
 
 quiet-few : (d : Desk) (e : Event) → Once (does d [] e)
-quiet-few d e = few-does 1 d [] e (lit≤ tt)
+quiet-few d e = few-does d [] e (lit≤ tt)
 
 module _ (n : ℕ) (d : Desk) where
   completes-few : (ph : Phase) → Once (completes n d ph)
   unfolding completes stamps
   completes-few Idle = quiet-few d _
-  completes-few Read1 = cases (Few 1) (d .agreed) (λ _. quiet-few _ _) (λ _. begins-few d _ _ _)
+  completes-few Read1 = cases Once (d .agreed) (λ _. quiet-few _ _) (λ _. begins-few d _ _ _)
   completes-few Read2 = quiet-few _ _
-  completes-few Write1 = cases (Few 1) (full (d .best .stamp .count)) (λ _. refuses-few _) (λ _. begins-few d _ _ _)
+  completes-few Write1 = cases Once (full (d .best .stamp .count)) (λ _. refuses-few _) (λ _. begins-few d _ _ _)
   completes-few Write2 = quiet-few _ _
 
   counted-few : Once (counted n d)
   unfolding counted
-  counted-few = cases (Few 1) (reaches (d .view) (d .replied)) (λ _. completes-few (d .phase)) (λ _. quiet-few d _)
+  counted-few = cases Once (reaches (d .view) (d .replied)) (λ _. completes-few (d .phase)) (λ _. quiet-few d _)
 
 pub desk-few : (n : ℕ) (d : Desk) (from : ℕ) (b : Body) → Once (deskHears n d from b)
 unfolding deskHears viewCame pairCame ackCame
-desk-few n d from (viewReply try v) = cases (Few 1) (current d from try && inside (d .view) v) (λ _. begins-few d _ _ _) (λ _. quiet-few d _)
-desk-few n d from (pairReply try p) = cases (Few 1) (current d from try && isFirst (d .phase)) (λ _. counted-few n (notesPair d from p)) (λ _. quiet-few d _)
-desk-few n d from (ack try) = cases (Few 1) (current d from try && isSecond (d .phase)) (λ _. counted-few n (notesAck d from)) (λ _. quiet-few d _)
+desk-few n d from (viewReply try v) = cases Once (current d from try && inside (d .view) v) (λ _. begins-few d _ _ _) (λ _. quiet-few d _)
+desk-few n d from (pairReply try p) = cases Once (current d from try && isFirst (d .phase)) (λ _. counted-few n (notesPair d from p)) (λ _. quiet-few d _)
+desk-few n d from (ack try) = cases Once (current d from try && isSecond (d .phase)) (λ _. counted-few n (notesAck d from)) (λ _. quiet-few d _)
 desk-few n d from (request u c) = quiet-few d _
 desk-few n d from (view v) = quiet-few d _
 desk-few n d from (proposal v q) = quiet-few d _

@@ -70,10 +70,10 @@ isWaiting (waiting m) = true
 unfoldable pub delivered : World → ℕ → Bool
 delivered w p = not (ltb p 256) || isWaiting (placeAt w p)
 
--- it sends at most k things
-abbrev pub fewer : {A : Type 0} → ℕ → Answer A → Bool
-fewer k (refused x) = true
-fewer k (does a ss e) = leb (length ss) k
+-- it sends at most two things
+unfoldable pub Few : {A : Type 0} → Answer A → Type 0
+Few (refused x) = Unit {0}
+Few (does a ss e) = length ss ≤ 2
 
 -- what is left when the relay s, of whose part the rule made a, or the desk d answers; n counts the delivered
 unfoldable pub relayLeft : List ℕ → ℕ → ℕ → ℕ → Answer Relay → Lent

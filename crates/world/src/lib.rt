@@ -15,7 +15,7 @@ ghost use Rattle.state.specs.Plans.{planOf, deskPlanOf, planned};
 ghost use Rattle.relay.specs.Fitting.{showsView};
 ghost use Rattle.world.specs.Answer.{lentOf, accepted};
 ghost use Rattle.world.specs.Narrow.{generatorOfBody, move, moveOfBody};
-ghost use Rattle.world.specs.Commits.{delivered, fewer, relayLeft, deskLeft, relayAsked, relayActs, deskAsked, deskActs, actorOf};
+ghost use Rattle.world.specs.Commits.{Few, delivered, relayLeft, deskLeft, relayAsked, relayActs, deskAsked, deskActs, actorOf};
 use rules::Desk;
 use rules::Step;
 use stamps::Pair;
@@ -87,7 +87,7 @@ fn tells(event: Event, who: u8) -> Answer
 // What the relay s answers is refused, or done; p is the delivered place, 256 where there is none.
 fn relay_commits(w: &mut [u8], s: u8, p: usize, plan: Plan) -> Answer
     requires { ⌜ (goodBytes (now w) ≡ true) × (s < 8) ⌝ }
-    ensures { λ r. ⌜ ((n : ℕ) (a : rules.Answer Relay) → planOf plan ≡ planned noRelay a → fewer 2 a ≡ true → delivered (worldAt (now (w .entry))) p ≡ true
+    ensures { λ r. ⌜ ((n : ℕ) (a : rules.Answer Relay) → planOf plan ≡ planned noRelay a → Few a → delivered (worldAt (now (w .entry))) p ≡ true
         → lentOf r (now (w .exit)) ≡ relayLeft (now (w .entry)) n p s a) ⌝ }
 {
     let answer = plan.answer;
@@ -114,7 +114,7 @@ fn relay_commits(w: &mut [u8], s: u8, p: usize, plan: Plan) -> Answer
 // The same of the desk n.
 fn desk_commits(w: &mut [u8], n: u8, p: usize, plan: DeskPlan) -> Answer
     requires { ⌜ (goodBytes (now w) ≡ true) × (n < 4) ⌝ }
-    ensures { λ r. ⌜ ((k : ℕ) (a : rules.Answer code.Desk) → deskPlanOf plan ≡ planned noDesk a → fewer 1 a ≡ true → delivered (worldAt (now (w .entry))) p ≡ true
+    ensures { λ r. ⌜ ((k : ℕ) (a : rules.Answer code.Desk) → deskPlanOf plan ≡ planned noDesk a → Few a → delivered (worldAt (now (w .entry))) p ≡ true
         → lentOf r (now (w .exit)) ≡ deskLeft (now (w .entry)) k p n a) ⌝ }
 {
     let answer = plan.answer;

@@ -8,7 +8,6 @@ use Rattle.state.specs.Plans.{planned}
 use Rattle.world.specs.Commits.{deskAsked}
 use Rattle.world.proofs.NarrowFew.{desk-asked-few}
 use Rattle.world.proofs.Good.{desk-at}
-use Rattle.world.proofs.Commit.{few-test}
 use Rattle.world.proofs.Routes.{none-delivered, desk-step}
 use Rattle.world.proofs.desk_acts.Statement.{statement}
 use Rattle.world.proofs.desk_acts.Tie as tie
@@ -26,7 +25,7 @@ returns c =
     let d = deskAt (worldAt b) n in
     let ask = deskAsked kind x d in
     let is : desk .desk-at .result ≡ d = desk .desk-at .ensures ∙ sym (desk-at b n (a .pre .1)) in
-    done .desk-commits .ensures 0 ask (asked .desk-asked .ensures ∙ ap (λ (e : Desk). planned noDesk (deskAsked kind x e)) is) (few-test 1 ask (desk-asked-few kind x d)) (none-delivered (worldAt b))
+    done .desk-commits .ensures 0 ask (asked .desk-asked .ensures ∙ ap (λ (e : Desk). planned noDesk (deskAsked kind x e)) is) (desk-asked-few kind x d) (none-delivered (worldAt b))
     ∙ desk-step b n ask
 
 pub desk-acts-spec : {M : Type 1} → statement M

@@ -11,7 +11,6 @@ use Rattle.world.proofs.NarrowWide.{asked-wide}
 use Rattle.world.proofs.NarrowFew.{asked-few}
 use Rattle.world.proofs.NarrowFits.{shows-own}
 use Rattle.world.proofs.Good.{view-at}
-use Rattle.world.proofs.Commit.{few-test}
 use Rattle.world.proofs.Routes.{none-delivered, relay-step}
 use Rattle.world.proofs.relay_acts.Statement.{statement}
 use Rattle.world.proofs.relay_acts.Tie as tie
@@ -39,7 +38,7 @@ returns c =
     let kind = a .args .kind in
     let r = relayAt (worldAt b) s in
     let ask = relayAsked kind s (narrow r (r .view) (move 0 0)) in
-    done .relay-commits .ensures 0 ask (asked .relay-asked .ensures ∙ ap (λ (p : Relay). planned noRelay (relayAsked kind s p)) (shown part)) (few-test 2 ask (asked-few s _ kind)) (none-delivered (worldAt b))
+    done .relay-commits .ensures 0 ask (asked .relay-asked .ensures ∙ ap (λ (p : Relay). planned noRelay (relayAsked kind s p)) (shown part)) (asked-few s _ kind) (none-delivered (worldAt b))
     ∙ relay-step b s (relayAsked kind s r) ask (asked-wide kind s r)
 
 pub relay-acts-spec : {M : Type 1} → statement M

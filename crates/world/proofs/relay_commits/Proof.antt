@@ -1,25 +1,28 @@
 -- `world::relay_commits` meets its contract. Assumes nothing.
-use mathlib.Core.Path.{refl, sym, _∙_}
+use mathlib.Core.Path.{refl, sym, ap, _∙_}
 use mathlib.Core.Bool.{and-eq-true-iff}
 use borrow.Author.Needs.{needs}
 use borrow.Author.Tests.{not-true, not-false}
 use Rattle.rules.specs.Messages.{no-room}
-use Rattle.rules.specs.State.{withRelay, relayAt}
+use Rattle.rules.specs.State.{noRelay, withRelay, relayAt}
+use Rattle.rules.specs.Steps.{relayDoes}
 use Rattle.rules.specs.Image.{worldAt}
 use Rattle.state.specs.Meaning.{partOf, sendingOf}
 use Rattle.state.specs.Plans.{planOf}
 use Rattle.world.specs.Narrow.{widened}
+use Rattle.world.specs.Commits.{relayLeft}
 use Rattle.world.proofs.Good.{shaped}
-use Rattle.world.proofs.Commit.{plan-refused, plan-crowded, plan-unseated, plan-done, sent-two}
+use Rattle.world.proofs.Commit.{plan-refuses, relay-crowded, relay-unseated, relay-done, sent-two}
 use Rattle.world.proofs.relay_commits.Statement.{statement}
 use Rattle.world.proofs.relay_commits.Tie as tie
 
 returns : tie.Need-returns
-unfolding planOf
+unfolding planOf relayLeft relayDoes
 returns c n a e few d =
     let at = c .before .before .before .before .before .before in
+    let x = plan-refuses noRelay a (planOf (at .args .plan)) e (c .before .if1 .taken) in
     let b = at .args .w .now in
-    plan-refused b (at .pre .0) (at .args .p) (at .args .s) n a (planOf (at .args .plan)) e (c .before .if1 .taken) _ (λ x q. c .refuses .ensures x b q)
+    c .refuses .ensures (x .why) b (x .numbered) ∙ ap (relayLeft b n (at .args .p) (at .args .s)) (sym (x .is))
 
 returns-2 : tie.Need-returns-2
 unfolding planOf sendingOf
@@ -29,7 +32,7 @@ returns-2 c n a e few d =
     let at = zero .before .before .before .before .before in
     let b = at .args .w .now in
     c .refuses2 .ensures no-room b refl
-    ∙ plan-crowded b (at .pre .0) (at .args .p) (at .args .s) n a (planOf (at .args .plan)) e few d (zero .if1 .left) (sym (tested .has-room .ensures) ∙ not-true _ (c .before .if2 .taken))
+    ∙ relay-crowded b (at .pre .0) (at .args .p) (at .args .s) n a (planOf (at .args .plan)) e few d (zero .if1 .left) (sym (tested .has-room .ensures) ∙ not-true _ (c .before .if2 .taken))
 
 returns-3 : tie.Need-returns-3
 unfolding planOf sendingOf
@@ -39,7 +42,7 @@ returns-3 c n a e few d =
     let at = zero .before .before .before .before .before in
     let b = at .args .w .now in
     c .refuses3 .ensures no-room b refl
-    ∙ plan-unseated b (at .pre .0) (at .args .p) (at .args .s) n a (planOf (at .args .plan)) e few d (zero .if1 .left) (sym (seats .has-seats .ensures) ∙ not-true _ (c .before .if3 .taken))
+    ∙ relay-unseated b (at .pre .0) (at .args .p) (at .args .s) n a (planOf (at .args .plan)) e few d (zero .if1 .left) (sym (seats .has-seats .ensures) ∙ not-true _ (c .before .if3 .taken))
 
 returns-4 : tie.Need-returns-4
 unfolding planOf sendingOf
@@ -62,7 +65,7 @@ returns-4 c n a e few d =
     let fits = sym (seats .has-seats .ensures) ∙ not-false _ (seated .if3 .left) in
     let two = and-eq-true-iff _ _ .0 fits in
     c .tells .ensures _
-    ∙ plan-done b (at .pre .0) (at .args .p) s n a (planOf plan) e few d (zero .if1 .left) (sym (room .has-room .ensures) ∙ not-false _ (roomed .if2 .left)) fits _
+    ∙ relay-done b (at .pre .0) (at .args .p) s n a (planOf plan) e few d (zero .if1 .left) (sym (room .has-room .ensures) ∙ not-false _ (roomed .if2 .left)) fits _
     (sent-two (withRelay w s r) (shaped b (at .pre .0) .places) (at .args .p) s (sendingOf (plan .first)) (sendingOf (plan .second)) _ _ _ _ (put .put-part .ensures (two .0) (two .1)) (free .free .ensures) (send .send .ensures) (send2 .send2 .ensures))
 
 pub relay-commits-spec : {M : Type 1} → statement M

@@ -11,7 +11,6 @@ use Rattle.state.specs.Meaning.{bodyOf, messageOf}
 use Rattle.state.specs.Plans.{planned}
 use Rattle.world.proofs.NarrowFew.{desk-few}
 use Rattle.world.proofs.Good.{desk-at}
-use Rattle.world.proofs.Commit.{few-test}
 use Rattle.world.proofs.Routes.{held-delivered, to-desk-left}
 use Rattle.world.proofs.to_desk.Statement.{statement}
 use Rattle.world.proofs.to_desk.Tie as tie
@@ -32,7 +31,7 @@ returns c =
     let ask = deskHears n d (at .args .m .from) x in
     let low : n < 4 = omega (arith, at .pre .1 .1 .1 .0, at .pre .1 .1 .1 .1) in
     let is : desk .desk-at .result ≡ d = desk .desk-at .ensures ∙ sym (desk-at b n low) in
-    done .desk-commits .ensures 1 ask (asked .hears .ensures ∙ ap (λ (e : Desk). planned noDesk (deskHears n e (at .args .m .from) x)) is) (few-test 1 ask (desk-few n d (at .args .m .from) x))
+    done .desk-commits .ensures 1 ask (asked .hears .ensures ∙ ap (λ (e : Desk). planned noDesk (deskHears n e (at .args .m .from) x)) is) (desk-few n d (at .args .m .from) x)
     (held-delivered b (at .pre .0) p (at .pre .1 .0) m (at .pre .1 .1 .0))
     ∙ to-desk-left b (at .pre .0) p (at .pre .1 .0) m (at .pre .1 .1 .1 .0)
 

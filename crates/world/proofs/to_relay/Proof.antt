@@ -11,7 +11,6 @@ use Rattle.world.proofs.NarrowWide.{hears-wide}
 use Rattle.world.proofs.NarrowFew.{hears-few}
 use Rattle.world.proofs.NarrowFits.{hears-fits}
 use Rattle.world.proofs.Good.{good-relay}
-use Rattle.world.proofs.Commit.{few-test}
 use Rattle.world.proofs.Routes.{held-delivered, held-good, to-relay-left}
 use Rattle.world.proofs.to_relay.Statement.{statement}
 use Rattle.world.proofs.to_relay.Tie as tie
@@ -35,7 +34,7 @@ returns c =
     let held = at .pre .1 .1 .0 in
     done .relay-commits .ensures 1 ask
     (asked .hears .ensures ∙ ap (planned noRelay) (rw (part .part-at .ensures, about .about-of .ensures .0, about .about-of .ensures .1) (hears-fits s r m x (good-relay b (at .pre .0) s) refl (held-good b (at .pre .0) p (at .pre .1 .0) m held))))
-    (few-test 2 ask (hears-few s shown (at .args .m .from) x)) (held-delivered b (at .pre .0) p (at .pre .1 .0) m held)
+    (hears-few s shown (at .args .m .from) x) (held-delivered b (at .pre .0) p (at .pre .1 .0) m held)
     ∙ to-relay-left b (at .pre .0) p (at .pre .1 .0) m (at .pre .1 .1 .1) ask (hears-wide s r (at .args .m .from) x)
 
 pub to-relay-spec : {M : Type 1} → statement M
