@@ -3,7 +3,7 @@ use mathlib.Core.Path.{_≡_, refl, sym, ap, _∙_}
 use mathlib.Core.Logic.{_≢_, ⊎-elim}
 use mathlib.Core.Bool.{Bool, true, false, _&&_, and-false}
 use mathlib.Core.List.{List, _++_, append-nil}
-use Prim.Native.Nat.{ℕ, _+_, _*_, _≤_, _<_}
+use Prim.Native.Nat.{ℕ, _+_, _*_, _<_}
 use native.Mathlib.Omega.{arith}
 use lib.Dec.{leb, ltb}
 use lib.ListN.{length, length-append}
@@ -11,7 +11,7 @@ use Rattle.views.proofs.Truth.{decided}
 use Rattle.rows.specs.Bytes.{placed}
 use Rattle.rows.proofs.Laws.{placed-fits}
 use Rattle.rules.specs.Sets.{if_then_else_}
-use Rattle.rules.specs.Messages.{Sending, copies, outgoing, Event, Refusal, bad-world, bad-step, empty, dead, not-now, not-yet, worn, no-room, number, Answer, refused, does}
+use Rattle.rules.specs.Messages.{Sending, copies, outgoing, Refusal, bad-world, bad-step, empty, dead, not-now, not-yet, worn, no-room, number, Answer, refused, does}
 use Rattle.rules.specs.State.{Relay, noRelay, noDesk, World, relayAt, withRelay, withDesk, withPlaces}
 use Rattle.rules.specs.declared.Desk.{Desk}
 use Rattle.rules.specs.Sending.{placeAll, freeIn}

@@ -58,45 +58,42 @@ module _ (s : ℕ) (r : Relay) where
 
 -- ---- desks
 
-abbrev Once : Answer Desk → Type 0
-Once a = Few a
-
-refuses-few : (x : Refusal) → Once (refused x)
+refuses-few : (x : Refusal) → Few {A = Desk} (refused x)
 unfolding Few
 refuses-few x = tt
 
-begins-few : (d : Desk) (ph : Phase) (v : ℕ) (p : Pair) → Once (begins d ph v p)
+begins-few : (d : Desk) (ph : Phase) (v : ℕ) (p : Pair) → Few (begins d ph v p)
 unfolding begins
-begins-few d ph v p = cases Once (full (d .tries)) (λ _. refuses-few _) (λ _. few-does _ _ _ (lit≤ tt))
+begins-few d ph v p = cases Few (full (d .tries)) (λ _. refuses-few _) (λ _. few-does _ _ _ (lit≤ tt))
 
-idle-few : (d : Desk) (ph : Phase) (v : ℕ) (p : Pair) (x : Refusal) → Once (if isIdle (d .phase) then begins d ph v p else refused x)
-idle-few d ph v p x = cases Once (isIdle (d .phase)) (λ _. begins-few d ph v p) (λ _. refuses-few x)
+idle-few : (d : Desk) (ph : Phase) (v : ℕ) (p : Pair) (x : Refusal) → Few (if isIdle (d .phase) then begins d ph v p else refused x)
+idle-few d ph v p x = cases Few (isIdle (d .phase)) (λ _. begins-few d ph v p) (λ _. refuses-few x)
 
-pub desk-asked-few : (kind x : ℕ) (d : Desk) → Once (deskAsked kind x d)
+pub desk-asked-few : (kind x : ℕ) (d : Desk) → Few (deskAsked kind x d)
 unfolding deskAsked readAsked writeAsked
-desk-asked-few kind x d = cases Once (eqb kind 5) (λ _. idle-few d _ _ _ _) (λ _. idle-few d _ _ _ _)
+desk-asked-few kind x d = cases Few (eqb kind 5) (λ _. idle-few d _ _ _ _) (λ _. idle-few d _ _ _ _)
 
-quiet-few : (d : Desk) (e : Event) → Once (does d [] e)
+quiet-few : (d : Desk) (e : Event) → Few (does d [] e)
 quiet-few d e = few-does d [] e (lit≤ tt)
 
 module _ (n : ℕ) (d : Desk) where
-  completes-few : (ph : Phase) → Once (completes n d ph)
+  completes-few : (ph : Phase) → Few (completes n d ph)
   unfolding completes stamps
   completes-few Idle = quiet-few d _
-  completes-few Read1 = cases Once (d .agreed) (λ _. quiet-few _ _) (λ _. begins-few d _ _ _)
+  completes-few Read1 = cases Few (d .agreed) (λ _. quiet-few _ _) (λ _. begins-few d _ _ _)
   completes-few Read2 = quiet-few _ _
-  completes-few Write1 = cases Once (full (d .best .stamp .count)) (λ _. refuses-few _) (λ _. begins-few d _ _ _)
+  completes-few Write1 = cases Few (full (d .best .stamp .count)) (λ _. refuses-few _) (λ _. begins-few d _ _ _)
   completes-few Write2 = quiet-few _ _
 
-  counted-few : Once (counted n d)
+  counted-few : Few (counted n d)
   unfolding counted
-  counted-few = cases Once (reaches (d .view) (d .replied)) (λ _. completes-few (d .phase)) (λ _. quiet-few d _)
+  counted-few = cases Few (reaches (d .view) (d .replied)) (λ _. completes-few (d .phase)) (λ _. quiet-few d _)
 
-pub desk-few : (n : ℕ) (d : Desk) (from : ℕ) (b : Body) → Once (deskHears n d from b)
+pub desk-few : (n : ℕ) (d : Desk) (from : ℕ) (b : Body) → Few (deskHears n d from b)
 unfolding deskHears viewCame pairCame ackCame
-desk-few n d from (viewReply try v) = cases Once (current d from try && inside (d .view) v) (λ _. begins-few d _ _ _) (λ _. quiet-few d _)
-desk-few n d from (pairReply try p) = cases Once (current d from try && isFirst (d .phase)) (λ _. counted-few n (notesPair d from p)) (λ _. quiet-few d _)
-desk-few n d from (ack try) = cases Once (current d from try && isSecond (d .phase)) (λ _. counted-few n (notesAck d from)) (λ _. quiet-few d _)
+desk-few n d from (viewReply try v) = cases Few (current d from try && inside (d .view) v) (λ _. begins-few d _ _ _) (λ _. quiet-few d _)
+desk-few n d from (pairReply try p) = cases Few (current d from try && isFirst (d .phase)) (λ _. counted-few n (notesPair d from p)) (λ _. quiet-few d _)
+desk-few n d from (ack try) = cases Few (current d from try && isSecond (d .phase)) (λ _. counted-few n (notesAck d from)) (λ _. quiet-few d _)
 desk-few n d from (request u c) = quiet-few d _
 desk-few n d from (view v) = quiet-few d _
 desk-few n d from (proposal v q) = quiet-few d _

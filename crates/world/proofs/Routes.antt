@@ -1,17 +1,17 @@
 -- How a step is routed: which act it tells, which message a place holds, and what the acts are of their parts. Assumes nothing.
 use mathlib.Core.Path.{_≡_, refl, sym, ap, _∙_}
-use mathlib.Core.Logic.{_≢_, ⊎-elim}
+use mathlib.Core.Logic.{⊎-elim}
 use mathlib.Core.Bool.{Bool, true, false, not, _&&_, _||_, and-false, and-eq-true-iff}
 use mathlib.Core.List.{List}
 use Prim.Native.Nat.{ℕ, zero, suc, _+_, _*_, _-_, _≤_, _<_}
 use native.Mathlib.Omega.{arith}
 use lib.Dec.{eqb, leb, ltb}
-use borrow.Author.Tests.{ne-eqb, lt-ltb, le-ltb, lt-leb, ltb-true, not-true, not-false}
+use borrow.Author.Tests.{ne-eqb, lt-ltb, le-ltb, lt-leb, eqb-true, ltb-true, not-true, not-false}
 use Rattle.views.proofs.Truth.{decided, contrary, cases, either-true, neither-true}
 use Rattle.views.proofs.Sets.{member-lt}
 use Rattle.rules.specs.Sets.{if_then_else_, member}
 use Rattle.rules.specs.Messages.{Body, request, view, proposal, converged, install, state, get, put, viewReply, pairReply, ack, Message, Answer, dead, empty, bad-step, bad-world}
-use Rattle.rules.specs.State.{Relay, Place, free, waiting, World, relayAt, deskAt, placeAt, withRelay, withDesk}
+use Rattle.rules.specs.State.{Relay, Place, free, waiting, World, relayAt, deskAt, placeAt}
 use Rattle.rules.specs.declared.Desk as rules-desk
 use Rattle.rules.specs.Steps.{drop, Act, noReport, deliver, bad, told, Outcome, refusal, relayDoes, deskDoes, aliveIn, ifAlive, freed, delivers, delivery, dropping, crashing, acts, stepped}
 use Rattle.rules.specs.declared.Step.{Step}
@@ -30,7 +30,7 @@ use Rattle.image.specs.Parts.{messageRow}
 use Rattle.image.proofs.Parts.{place-is}
 use Rattle.world.specs.Answer.{accepted}
 use Rattle.world.specs.Narrow.{generatorOfBody, move, moveOfBody, widens}
-use Rattle.world.specs.Commits.{freeRow, freedAt, delivered, relayLeft, deskLeft, relayAsked, relayActs, deskAsked, deskActs, actorOf}
+use Rattle.world.specs.Commits.{freeRow, freedAt, delivered, relayLeft, deskLeft, relayAsked, relayActs, deskAsked, deskActs, placeAct, actorOf}
 use Rattle.world.proofs.Places.{isFree, free-row, is-free}
 use Rattle.world.proofs.Good.{place-at, good-place}
 
@@ -58,17 +58,13 @@ module _ (k : Step) where
       simp (not-true (eqb (k .kind) 5) (two .0), not-true (eqb (k .value) 0) (two .1), and-false)
 
   module _ (v : valued (k .kind) ≡ false) where
-    pub told-deliver : k .kind ≡ 6 → k .id < 256 → told k ≡ deliver (k .id)
+    pub told-place : eqb (k .kind) 6 || eqb (k .kind) 7 ≡ true → k .id < 256 → told k ≡ placeAct (k .kind) (k .id)
     unfolding told
-    told-deliver e h = rw (e, not-false (eqb (k .value) 0) (rw e at v), lt-ltb (k .id) 256 h)
+    told-place t h = ⊎-elim (λ e. let q = eqb-true (k .kind) 6 e in rw (q, not-false (eqb (k .value) 0) (rw q at v), lt-ltb (k .id) 256 h)) (λ e. let q = eqb-true (k .kind) 7 e in rw (q, not-false (eqb (k .value) 0) (rw q at v), lt-ltb (k .id) 256 h)) (either-true (eqb (k .kind) 6) (eqb (k .kind) 7) t)
 
-    pub told-drop : k .kind ≡ 7 → k .id < 256 → told k ≡ drop (k .id)
-    unfolding told
-    told-drop e h = rw (e, not-false (eqb (k .value) 0) (rw e at v), lt-ltb (k .id) 256 h)
-
-    pub acted : (w : World) → k .kind ≢ 6 → k .kind ≢ 7 → k .value < 4294967296 → acts w (told k) ≡ routed w (k .kind) (actorOf (k .kind) (k .id)) (k .value)
+    pub acted : (w : World) → eqb (k .kind) 6 || eqb (k .kind) 7 ≡ false → k .value < 4294967296 → acts w (told k) ≡ routed w (k .kind) (actorOf (k .kind) (k .id)) (k .value)
     unfolding acts told actorOf relayAsked deskAsked
-    acted w p q h = go (k .kind) refl v
+    acted w p h = go (k .kind) refl v p
       where
         i : ℕ
         i = k .id
@@ -79,17 +75,17 @@ module _ (k : Step) where
         beyond : (m : ℕ) → k .kind ≡ m → 9 ≤ m → acts w (told k) ≡ routed w m (actorOf m i) (k .value)
         beyond m e l = rw e (simp (lt-leb m 3 (omega arith), lt-leb m 5 (omega arith), and-false, other m 1 (omega arith), other m 2 (omega arith), other m 3 (omega arith), other m 4 (omega arith), other m 5 (omega arith), other m 6 (omega arith), other m 7 (omega arith), other m 8 (omega arith)))
 
-        go : (n : ℕ) → k .kind ≡ n → valued n ≡ false → acts w (told k) ≡ routed w n (actorOf n i) (k .value)
-        go zero e z = rw e
-        go (suc zero) e z = rw (e, not-false (eqb (k .value) 0) z) (⊎-elim (λ t. rw t (rw (t, lt-ltb i 12 (omega (arith, ltb-true i 8 t))))) (λ t. rw t) (decided (ltb i 8)))
-        go (suc (suc zero)) e z = rw (e, not-false (eqb (k .value) 0) z) (⊎-elim (λ t. rw t (rw (t, lt-ltb i 12 (omega (arith, ltb-true i 8 t))))) (λ t. rw t) (decided (ltb i 8)))
-        go (suc (suc (suc zero))) e z = rw (e, not-false (eqb (k .value) 0) z) (⊎-elim (λ t. rw t (rw (t, lt-ltb i 12 (omega (arith, ltb-true i 8 t))))) (λ t. rw t) (decided (ltb i 8)))
-        go (suc (suc (suc (suc zero)))) e z = rw (e, not-false (eqb (k .value) 0) z) (⊎-elim (λ t. rw t (rw (lt-ltb (8 + i) 12 (omega (arith, ltb-true i 4 t)), le-ltb (8 + i) 8 (omega arith), back))) (λ t. rw t) (decided (ltb i 4)))
-        go (suc (suc (suc (suc (suc zero))))) e z = rw (e, lt-ltb (k .value) 4294967296 h) (⊎-elim (λ t. rw t (rw (lt-ltb (8 + i) 12 (omega (arith, ltb-true i 4 t)), le-ltb (8 + i) 8 (omega arith), back))) (λ t. rw t) (decided (ltb i 4)))
-        go (suc (suc (suc (suc (suc (suc zero)))))) e z = absurd (p e)
-        go (suc (suc (suc (suc (suc (suc (suc zero))))))) e z = absurd (q e)
-        go (suc (suc (suc (suc (suc (suc (suc (suc zero)))))))) e z = rw (e, not-false (eqb (k .value) 0) z) (⊎-elim (λ t. rw t (rw t)) (λ t. rw t) (decided (ltb i 12)))
-        go (suc (suc (suc (suc (suc (suc (suc (suc (suc n))))))))) e z = beyond _ e (omega arith)
+        go : (n : ℕ) → k .kind ≡ n → valued n ≡ false → eqb n 6 || eqb n 7 ≡ false → acts w (told k) ≡ routed w n (actorOf n i) (k .value)
+        go zero e z p = rw e
+        go (suc zero) e z p = rw (e, not-false (eqb (k .value) 0) z) (⊎-elim (λ t. rw t (rw (t, lt-ltb i 12 (omega (arith, ltb-true i 8 t))))) (λ t. rw t) (decided (ltb i 8)))
+        go (suc (suc zero)) e z p = rw (e, not-false (eqb (k .value) 0) z) (⊎-elim (λ t. rw t (rw (t, lt-ltb i 12 (omega (arith, ltb-true i 8 t))))) (λ t. rw t) (decided (ltb i 8)))
+        go (suc (suc (suc zero))) e z p = rw (e, not-false (eqb (k .value) 0) z) (⊎-elim (λ t. rw t (rw (t, lt-ltb i 12 (omega (arith, ltb-true i 8 t))))) (λ t. rw t) (decided (ltb i 8)))
+        go (suc (suc (suc (suc zero)))) e z p = rw (e, not-false (eqb (k .value) 0) z) (⊎-elim (λ t. rw t (rw (lt-ltb (8 + i) 12 (omega (arith, ltb-true i 4 t)), le-ltb (8 + i) 8 (omega arith), back))) (λ t. rw t) (decided (ltb i 4)))
+        go (suc (suc (suc (suc (suc zero))))) e z p = rw (e, lt-ltb (k .value) 4294967296 h) (⊎-elim (λ t. rw t (rw (lt-ltb (8 + i) 12 (omega (arith, ltb-true i 4 t)), le-ltb (8 + i) 8 (omega arith), back))) (λ t. rw t) (decided (ltb i 4)))
+        go (suc (suc (suc (suc (suc (suc zero)))))) e z p = absurd (contrary refl p)
+        go (suc (suc (suc (suc (suc (suc (suc zero))))))) e z p = absurd (contrary refl p)
+        go (suc (suc (suc (suc (suc (suc (suc (suc zero)))))))) e z p = rw (e, not-false (eqb (k .value) 0) z) (⊎-elim (λ t. rw t (rw t)) (λ t. rw t) (decided (ltb i 12)))
+        go (suc (suc (suc (suc (suc (suc (suc (suc (suc n))))))))) e z p = beyond _ e (omega arith)
 
 -- ---- an act of who is dead, and of who is alive
 
@@ -125,9 +121,9 @@ module _ (b : List ℕ) (good : goodBytes b ≡ true) (p : ℕ) (hp : p < 256) w
   pub free-place : freeRow b p ≡ isFree (placeAt w p)
   free-place = ap (λ (l : List ℕ). freeRow l p) (sym (good-image b good)) ∙ free-row w p hp
 
-  pub empty-left : freeRow b p ≡ true → (kept empty b ≡ left b (acts w (deliver p))) × (kept empty b ≡ left b (acts w (drop p)))
+  pub empty-left : (kind : ℕ) → freeRow b p ≡ true → kept empty b ≡ left b (acts w (placeAct kind p))
   unfolding acts delivery dropping
-  empty-left e = let q = is-free (placeAt w p) (sym free-place ∙ e) in (rw q, rw q)
+  empty-left kind e = let q = is-free (placeAt w p) (sym free-place ∙ e) in cases (λ (a : Act). kept empty b ≡ left b (acts w a)) (eqb kind 6) (λ _. rw q) (λ _. rw q)
 
   module _ (m : code-message.Message) where
     pub place-holds : freeRow b p ≡ false → messageRow m ≡ rowAt b (43776 + p * 80) → placeAt w p ≡ waiting (messageOf m)

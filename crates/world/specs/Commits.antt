@@ -12,7 +12,7 @@ use Rattle.rules.specs.State.{Transfer, Relay, Place, free, waiting, noRelay, n
 use Rattle.rules.specs.declared.Desk.{Desk}
 use Rattle.rules.specs.Relays.{joinAsked, leaveAsked, timerRang}
 use Rattle.rules.specs.Desks.{readAsked, writeAsked}
-use Rattle.rules.specs.Steps.{Outcome, relayDoes, deskDoes, freed}
+use Rattle.rules.specs.Steps.{Act, deliver, drop, Outcome, relayDoes, deskDoes, freed}
 use Rattle.rules.specs.Image.{transferAt, worldAt}
 use Rattle.rules.specs.Lent.{Lent, left}
 use Rattle.world.specs.Narrow.{widens}
@@ -82,7 +82,7 @@ relayLeft b n p s a = left b (relayDoes (freedAt (worldAt b) p) n s (widens (rel
 unfoldable pub deskLeft : List ℕ → ℕ → ℕ → ℕ → Answer Desk → Lent
 deskLeft b n p d a = left b (deskDoes (freedAt (worldAt b) p) n d a)
 
--- ---- asked: the rule of a kind, and who acts
+-- ---- asked: what a kind asks, and who acts
 
 -- "1 JOIN relay, 2 LEAVE relay, 3 TIMER relay"
 unfoldable pub relayAsked : ℕ → ℕ → Relay → Answer Relay
@@ -97,6 +97,10 @@ deskAsked kind x d = if eqb kind 5 then writeAsked d x else readAsked d
 
 abbrev pub deskActs : World → ℕ → ℕ → ℕ → Outcome
 deskActs w kind n x = deskDoes w 0 n (deskAsked kind x (deskAt w n))
+
+-- "6 DELIVER place, 7 DROP place"
+abbrev pub placeAct : ℕ → ℕ → Act
+placeAct kind p = if eqb kind 6 then deliver p else drop p
 
 -- who acts in a step of the kind, 0..7 relays, 8..11 desks; 12 is nobody
 unfoldable pub actorOf : ℕ → ℕ → ℕ

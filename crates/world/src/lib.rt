@@ -1,7 +1,7 @@
 // Document 01, "The world" and "Steps": start and one step on a lent buffer. A step makes a plan by value, and only a plan that finds room is written:
 // so a refused step changes no byte.
 ghost use mathlib.Core.Path.{_≡_};
-ghost use mathlib.Core.Bool.{true};
+ghost use mathlib.Core.Bool.{true, false};
 ghost use mathlib.Core.List.{List};
 ghost use Prim.Native.Nat.{ℕ, _≤_, _<_};
 ghost use Rattle.rules.specs.Messages as rules;
@@ -15,7 +15,7 @@ ghost use Rattle.state.specs.Plans.{planOf, deskPlanOf, planned};
 ghost use Rattle.relay.specs.Fitting.{showsView};
 ghost use Rattle.world.specs.Answer.{lentOf, accepted};
 ghost use Rattle.world.specs.Narrow.{generatorOfBody, move, moveOfBody};
-ghost use Rattle.world.specs.Commits.{Few, delivered, relayLeft, deskLeft, relayAsked, relayActs, deskAsked, deskActs, actorOf};
+ghost use Rattle.world.specs.Commits.{freeRow, Few, delivered, relayLeft, deskLeft, relayAsked, relayActs, deskAsked, deskActs, placeAct, actorOf};
 use rules::Desk;
 use rules::Step;
 use stamps::Pair;
@@ -240,14 +240,10 @@ fn to_desk(w: &mut [u8], p: usize, m: Message) -> Answer
     desk_commits(w, n, p, plan)
 }
 
-fn deliver(w: &mut [u8], id: u8) -> Answer
-    requires { ⌜ goodBytes (now w) ≡ true ⌝ }
-    ensures { λ r. ⌜ lentOf r (now (w .exit)) ≡ lent.left (now (w .entry)) (steps.acts (worldAt (now (w .entry))) (steps.deliver id)) ⌝ }
+fn deliver(w: &mut [u8], p: usize) -> Answer
+    requires { ⌜ (goodBytes (now w) ≡ true) × ((p < 256) × (freeRow (now w) p ≡ false)) ⌝ }
+    ensures { λ r. ⌜ lentOf r (now (w .exit)) ≡ lent.left (now (w .entry)) (steps.acts (worldAt (now (w .entry))) (steps.deliver p)) ⌝ }
 {
-    let p = id as usize;
-    if reads::is_free(w, p) {
-        return refuses(3);
-    }
     let m = image::message_at(w, 43776 + p * 80);
     if !reads::alive_at(w, m.to) {
         return refuses(4);
@@ -258,14 +254,17 @@ fn deliver(w: &mut [u8], id: u8) -> Answer
     to_desk(w, p, m)
 }
 
-// "DROP only frees"
-fn drop_place(w: &mut [u8], id: u8) -> Answer
+// "6 DELIVER place, 7 DROP place"; "DROP only frees"
+fn place_acts(w: &mut [u8], kind: u8, id: u8) -> Answer
     requires { ⌜ goodBytes (now w) ≡ true ⌝ }
-    ensures { λ r. ⌜ lentOf r (now (w .exit)) ≡ lent.left (now (w .entry)) (steps.acts (worldAt (now (w .entry))) (steps.drop id)) ⌝ }
+    ensures { λ r. ⌜ lentOf r (now (w .exit)) ≡ lent.left (now (w .entry)) (steps.acts (worldAt (now (w .entry))) (placeAct kind id)) ⌝ }
 {
     let p = id as usize;
     if reads::is_free(w, p) {
         return refuses(3);
+    }
+    if kind == 6 {
+        return deliver(w, p);
     }
     writes::free(w, p);
     tells(Event::Nothing, 0)
@@ -307,11 +306,8 @@ fn step_good(w: &mut [u8], k: Step) -> Answer
     if (kind != 5) & (k.value != 0) {
         return refuses(2);
     }
-    if kind == 6 {
-        return deliver(w, k.id);
-    }
-    if kind == 7 {
-        return drop_place(w, k.id);
+    if (kind == 6) | (kind == 7) {
+        return place_acts(w, kind, k.id);
     }
     let who = actor(kind, k.id);
     if 12 <= who {

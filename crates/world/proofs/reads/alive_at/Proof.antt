@@ -1,5 +1,4 @@
 -- `world::reads::alive_at` meets its contract. Assumes nothing.
-use mathlib.Core.Path.{_∙_}
 use Rattle.world.proofs.Good.{alive-row}
 use Rattle.world.proofs.reads.alive_at.Statement.{statement}
 use Rattle.world.proofs.reads.alive_at.Tie as tie
