@@ -1,40 +1,32 @@
 -- What a rule leaves of a part: a generator and a transfer of the same keys, and no transfer after an entry; and it sends at most two things.
 -- Assumes nothing.
-use mathlib.Core.Path.{_≡_, refl, ap, subst, _∙_}
+use mathlib.Core.Path.{_≡_, refl, ap, _∙_}
 use mathlib.Core.Bool.{Bool, true, false, not, _&&_, _||_}
 use mathlib.Core.List.{List, [], _∷_}
 use Prim.Native.Nat.{ℕ, suc, _≤_, suc-le-suc}
 use native.Mathlib.Omega.{arith}
 use lib.Dec.{eqb, lit≤}
 use lib.ListN.{length}
-use borrow.Author.Tests.{eqb-true, eq-eqb}
+use borrow.Author.Tests.{eq-eqb}
 use Rattle.views.proofs.Truth.{cases, contrary}
 use Rattle.rules.specs.Sets.{member, within, inside, none, all, joins, joined}
 use Rattle.rules.specs.Stamps.{Pair}
 use Rattle.rules.specs.Messages.{Body, request, view, proposal, converged, install, state, get, put, viewReply, pairReply, ack, Sending, Event, nothing, opened, Refusal, Answer, refused, does}
-use Rattle.rules.specs.State.{Generator, Transfer, Relay, withKnown, withPending, withActive, withHolds, withGenerators, withTransfers}
+use Rattle.rules.specs.State.{Transfer, Relay, withKnown, withPending, withActive, withHolds, withGenerators, withTransfers}
 use Rattle.rules.specs.Generators.{generatorFor, Turn, proposes, proposalHeard, convergedHeard}
 use Rattle.rules.specs.Relays.{atGenerator, joinAsked, leaveAsked, timerRang, requestHeard, learns, isFor, putTransfer, passes, moved, onward, enters, tested, early, stopped, takesInstall, sentFirst, installHeard, stateHeard, serves, getHeard, putHeard, relayHears}
-use Rattle.rules.proofs.Hold.{all-none, all-parts}
+use Rattle.rules.proofs.Hold.{all-none}
 use Rattle.rules.proofs.Generators.{view-of}
 use Rattle.world.specs.Narrow.{generatorOfBody, Move, move, moveOfBody, narrow}
 use Rattle.world.specs.Commits.{relayAsked}
 use Rattle.world.proofs.NarrowTurn.{Leaves, proposes-leaves, proposal-leaves, converged-leaves, keeps-move, gathers-move}
-use Rattle.world.proofs.NarrowTable.{byView, moved-by, byMove, freed-move, put-keyed, those-none}
+use Rattle.world.proofs.NarrowTable.{byView, byMove, freed-move, put-keyed, those-none}
 use Rattle.world.proofs.NarrowFits.{shows-view, shows-move}
 
 -- n shows v and m
 pub record Shows (v : ℕ) (m : Move) (n : Relay) : Type 0 where
   pub generators : all (λ g. eqb (g .view) v) (n .generators) ≡ true
   pub transfers : all (isFor (m .old) (m .new)) (n .transfers) ≡ true
-
--- what it shows has their keys
-module _ {v : ℕ} {m : Move} {n : Relay} (h : Shows v m n) where
-  pub shown-view : {g : Generator} {more : List Generator} → n .generators ≡ g ∷ more → g .view ≡ v
-  shown-view {g} {more} e = eqb-true (g .view) v (all-parts (λ g. eqb (g .view) v) g more (rw e at (h .generators)) .0)
-
-  pub shown-move : {t : Transfer} {more : List Transfer} → n .transfers ≡ t ∷ more → move (t .old) (t .new) ≡ m
-  shown-move {t} {more} e = moved-by m t (all-parts (isFor (m .old) (m .new)) t more (rw e at (h .transfers)) .0)
 
 -- what a part of a relay with the view x becomes, and what is sent: at most k
 pub record Local (x v : ℕ) (m : Move) (k : ℕ) (n : Relay) (ss : List Sending) : Type 0 where
@@ -249,8 +241,3 @@ module _ (r : Relay) where
       let h = narrow-shows v (move 0 0) in
       let Here = LocalAnswer v v (move 0 0) 2 in
       cases Here (eqb kind 1) (λ _. join-here v (move 0 0) p h s) (λ _. cases Here (eqb kind 2) (λ _. leave-here v (move 0 0) p h s) (λ _. timer-here v (move 0 0) p h refl))
-
--- what an answer that is known says
-pub local-does : {x v k : ℕ} {m : Move} {a : Answer Relay} {n : Relay} {ss : List Sending} {e : Event} → LocalAnswer x v m k a → a ≡ does n ss e → Local x v m k n ss
-unfolding LocalAnswer
-local-does {x} {v} {k} {m} h e = subst (LocalAnswer x v m k) e h

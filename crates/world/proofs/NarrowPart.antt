@@ -1,28 +1,26 @@
 -- What the part of a good relay shows, and what the whole relay becomes: one generator and one transfer are written at their seats, or transfers are freed.
 -- Assumes nothing.
 use mathlib.Core.Path.{_≡_}
-use mathlib.Core.Logic.{_≢_, _⊎_}
-use mathlib.Core.Bool.{Bool, true, false}
+use mathlib.Core.Logic.{_≢_}
+use mathlib.Core.Bool.{true, false}
 use mathlib.Core.List.{List, [], _∷_}
-use Prim.Native.Nat.{ℕ, zero, suc, _≤_, _<_}
-use native.Mathlib.Nat.{le-of-suc-le-suc}
-use native.Mathlib.Omega.{arith}
+use Prim.Native.Nat.{ℕ, _≤_, _<_}
 use lib.Dec.{eqb, leb, ltb}
 use lib.ListN.{length, getD}
 use borrow.Author.Tests.{leb-true, ne-eqb}
 use Rattle.views.proofs.Sets.{member-not-empty}
-use Rattle.rules.specs.Sets.{those, inside, all}
+use Rattle.rules.specs.Sets.{those, inside}
 use Rattle.rules.specs.State.{Generator, Transfer, Relay}
-use Rattle.rules.specs.Generators.{fresh, generatorFor}
-use Rattle.rules.specs.Relays.{freshTransfer, isFor, transferFor}
+use Rattle.rules.specs.Generators.{fresh}
+use Rattle.rules.specs.Relays.{freshTransfer, isFor}
 use Rattle.rules.specs.WellFormed.{goodGenerator, goodTransfer, goodGenerators, goodTransfers, goodRelay}
-use Rattle.rules.proofs.Hold.{hold-facts, all-parts}
+use Rattle.rules.proofs.Hold.{hold-facts}
 use Rattle.rules.proofs.Generators.{gen-facts}
 use Rattle.rules.proofs.Relays.{Rel, rel-facts}
 use Rattle.rules.proofs.Transfers.{tra-facts, move-facts}
 use Rattle.rules.proofs.ImageChange.{Changed}
 use Rattle.world.specs.Narrow.{Move, move, narrow, widened}
-use Rattle.world.proofs.NarrowTable.{byView, byMove, those-none, part-one}
+use Rattle.world.proofs.NarrowTable.{byView, byMove, those-none}
 use Rattle.world.proofs.NarrowSeat.{seat, those-fewer, part-present, part-absent, put-changed, put-fits}
 
 -- the seats of a view and of a move
@@ -33,11 +31,6 @@ abbrev pub seatOfMove : Move → List Transfer → ℕ
 seatOfMove m ts = seat (isFor (m .old) (m .new)) ts
 
 -- ---- what the part of a good relay shows
-
-all-within : {A : Type 0} (f : A → Bool) (xs : List A) (k : ℕ) (d : A) → all f xs ≡ true → k < length xs → f (getD xs k d) ≡ true
-all-within f [] k d a h = absurd (omega arith)
-all-within f (x ∷ xs) zero d a h = all-parts f x xs a .0
-all-within f (x ∷ xs) (suc k) d a h = all-within f xs k d (all-parts f x xs a .1) (le-of-suc-le-suc h)
 
 some-view : (s : ℕ) (g : Generator) → goodGenerator s g ≡ true → g .view ≢ 0
 some-view s g e = member-not-empty (g .view) s (gen-facts s g e .owner)
@@ -68,22 +61,7 @@ module _ (s : ℕ) (r : Relay) (good : goodRelay s r ≡ true) where
   no-transfer v w =
       those-none (goodTransfer s) (isFor 0 w) (λ t e. rw (ne-eqb (t .old) 0 (some-old s t e))) (r .transfers) (rel .transfers)
 
-  -- so a place is filled exactly where it names one
-  pub generator-filled : (k : ℕ) → k < length (r .generators) → getD (r .generators) k (fresh 0) .view ≢ 0
-  generator-filled k h = some-view s _ (all-within (goodGenerator s) (r .generators) k (fresh 0) (rel .generators) h)
-
-  pub transfer-filled : (k : ℕ) → k < length (r .transfers) → getD (r .transfers) k (freshTransfer 0 0) .old ≢ 0
-  transfer-filled k h = some-old s _ (all-within (goodTransfer s) (r .transfers) k (freshTransfer 0 0) (rel .transfers) h)
-
   module _ (v : ℕ) (m : Move) where
-    pub generator-shown : (narrow r v m .generators ≡ []) ⊎ (narrow r v m .generators ≡ generatorFor v (r .generators) ∷ [])
-    unfolding narrow
-    generator-shown = part-one byView v (r .generators) (rel .different)
-
-    pub transfer-shown : (narrow r v m .transfers ≡ []) ⊎ (narrow r v m .transfers ≡ transferFor (m .old) (m .new) (r .transfers) ∷ [])
-    unfolding narrow
-    transfer-shown = part-one byMove m (r .transfers) (rel .apart)
-
     pub generator-there : seatOfView v (r .generators) < length (r .generators) → narrow r v m .generators ≡ getD (r .generators) (seatOfView v (r .generators)) (fresh 0) ∷ []
     unfolding narrow
     generator-there h = part-present byView v (r .generators) (fresh 0) (rel .different) h

@@ -45,11 +45,6 @@ module _ {A : Type 0} (f : A → Bool) where
   seat-is (x ∷ xs) (suc i) d h below here =
       seat-later x xs (below 0 (omega arith)) ∙ ap suc (seat-is xs i d (le-of-suc-le-suc h) (λ k p. below (suc k) (suc-le-suc p)) (λ p. here (suc-le-suc p)))
 
-  pub seat-passes : (xs : List A) (d : A) → seat f xs < length xs → f (getD xs (seat f xs) d) ≡ true
-  seat-passes [] d h = absurd (omega arith)
-  seat-passes (x ∷ xs) d h =
-      ⊎-elim (λ e. rw (seat-first x xs e) e) (λ e. rw (seat-later x xs e) (seat-passes xs d (le-of-suc-le-suc (rw (seat-later x xs e) at h)))) (decided (f x))
-
   pub those-fewer : (xs : List A) → length (those f xs) ≤ length xs
   those-fewer [] = unfold those in (omega arith)
   those-fewer (x ∷ xs) =
@@ -70,12 +65,6 @@ module _ {A K : Type 0} (T : Table A K) (k : K) where
   -- by whether the first element has the key
   by-first : (P : Type 0) (x : A) (xs : List A) → (T .is k x ≡ true → seatIn (x ∷ xs) ≡ 0 → P) → (T .is k x ≡ false → seatIn (x ∷ xs) ≡ suc (seatIn xs) → P) → P
   by-first P x xs f g = ⊎-elim (λ e. f e (seat-first (T .is k) x xs e)) (λ e. g e (seat-later (T .is k) x xs e)) (decided (T .is k x))
-
-  pub find-present : (xs : List A) (d : A) → seatIn xs < length xs → T .find k xs ≡ getD xs (seatIn xs) d
-  find-present [] d h = absurd (omega arith)
-  find-present (x ∷ xs) d h =
-      by-first _ x xs (λ e z. rw (z, T .find-more k x xs, e))
-      (λ e z. rw (z, T .find-more k x xs, e) (find-present xs d (le-of-suc-le-suc (rw z at h))))
 
   pub part-present : (xs : List A) (d : A) → distinct (T .other) xs ≡ true → seatIn xs < length xs → part T k xs ≡ getD xs (seatIn xs) d ∷ []
   part-present [] d u h = absurd (omega arith)

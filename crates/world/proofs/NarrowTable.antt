@@ -1,7 +1,7 @@
 -- A table: a list that is searched by a key, and in which an element is put back at its key or at the end. What is found in, and put back into, the part
 -- that shows one key is what is found in, and put back into, the whole. The generators of a relay are a table, and its transfers. Assumes nothing.
 use mathlib.Core.Path.{_≡_, refl, sym, ap, _∙_}
-use mathlib.Core.Logic.{_⊎_, inl, inr, ⊎-elim}
+use mathlib.Core.Logic.{⊎-elim}
 use mathlib.Core.Bool.{Bool, true, false, and-eq-true-iff}
 use mathlib.Core.List.{List, [], _∷_}
 use Prim.Native.Nat.{ℕ}
@@ -11,38 +11,29 @@ use Rattle.views.proofs.Sets.{inside-self}
 use Rattle.views.proofs.Truth.{decided, contrary, never-true}
 use Rattle.rules.specs.Sets.{if_then_else_, inside, those, all}
 use Rattle.rules.specs.State.{Generator, Transfer}
-use Rattle.rules.specs.Generators.{fresh, generatorFor, putGenerator}
-use Rattle.rules.specs.Relays.{freshTransfer, isFor, transferFor, putTransfer}
-use Rattle.rules.specs.WellFormed.{distinct, otherView, otherMove}
-use Rattle.rules.proofs.Hold.{all-none, all-parts, all-more, distinct-parts}
+use Rattle.rules.specs.Generators.{generatorFor, putGenerator}
+use Rattle.rules.specs.Relays.{isFor, transferFor, putTransfer}
+use Rattle.rules.specs.WellFormed.{otherView, otherMove}
+use Rattle.rules.proofs.Hold.{all-none, all-parts, all-more}
 use Rattle.rules.proofs.Transfers.{for-pair}
-use Rattle.world.specs.Narrow.{Move, move, putBackGenerator, putBackTransfer}
+use Rattle.world.specs.Narrow.{Move, move, putBack}
 
 pub record Table (A K : Type 0) : Type 0 where
   pub is : K → A → Bool
   pub key : A → K
-  pub blank : K → A
   pub find : K → List A → A
   pub put : A → List A → List A
-  pub back : List A → List A → List A
   pub other : A → A → Bool
   pub keyed : (k : K) (x : A) → is k x ≡ true → key x ≡ k
   pub self : (x : A) → is (key x) x ≡ true
   pub clash : (k : K) (x y : A) → is k x ≡ true → is k y ≡ true → other x y ≡ false
-  pub find-none : (k : K) → find k [] ≡ blank k
   pub find-more : (k : K) (x : A) (xs : List A) → find k (x ∷ xs) ≡ if is k x then x else find k xs
   pub put-none : (y : A) → put y [] ≡ y ∷ []
   pub put-more : (y x : A) (xs : List A) → put y (x ∷ xs) ≡ if is (key y) x then y ∷ xs else x ∷ put y xs
-  pub back-none : (xs : List A) → back [] xs ≡ xs
-  pub back-some : (y : A) (more xs : List A) → back (y ∷ more) xs ≡ put y xs
 
 -- ---- generators, by their views
 
 module _ (v : ℕ) where
-  pub absent-view : generatorFor v [] ≡ fresh v
-  unfolding generatorFor
-  absent-view = refl
-
   pub find-view : (g : Generator) (gs : List Generator) → generatorFor v (g ∷ gs) ≡ if eqb (g .view) v then g else generatorFor v gs
   unfolding generatorFor
   find-view g gs = refl
@@ -66,29 +57,20 @@ byView =
     record {
       is = λ v g. eqb (g .view) v;
       key = λ g. g .view;
-      blank = fresh;
       find = generatorFor;
       put = putGenerator;
-      back = putBackGenerator;
       other = otherView;
       keyed = λ v g e. eqb-true (g .view) v e;
       self = λ g. eq-eqb (g .view) (g .view) refl;
       clash = other-view;
-      find-none = absent-view;
       find-more = find-view;
       put-none = add-view;
       put-more = put-view;
-      back-none = λ gs. refl;
-      back-some = λ g more gs. refl;
     }
 
 -- ---- transfers, by their old and new views
 
 module _ (m : Move) where
-  pub absent-move : transferFor (m .old) (m .new) [] ≡ freshTransfer (m .old) (m .new)
-  unfolding transferFor
-  absent-move = refl
-
   pub find-move : (t : Transfer) (ts : List Transfer) → transferFor (m .old) (m .new) (t ∷ ts) ≡ if isFor (m .old) (m .new) t then t else transferFor (m .old) (m .new) ts
   unfolding transferFor
   find-move t ts = refl
@@ -122,20 +104,15 @@ byMove =
     record {
       is = λ m. isFor (m .old) (m .new);
       key = λ t. move (t .old) (t .new);
-      blank = λ m. freshTransfer (m .old) (m .new);
       find = λ m. transferFor (m .old) (m .new);
       put = putTransfer;
-      back = putBackTransfer;
       other = otherMove;
       keyed = moved-by;
       self = λ t. and-eq-true-iff _ _ .1 (eq-eqb (t .old) (t .old) refl, eq-eqb (t .new) (t .new) refl);
       clash = other-move;
-      find-none = absent-move;
       find-more = find-move;
       put-none = add-move;
       put-more = put-move;
-      back-none = λ ts. refl;
-      back-some = λ t more ts. refl;
     }
 
 -- ---- laws of every table. First: the part of a list that passes a test, by its first element
@@ -180,14 +157,6 @@ module _ {A K : Type 0} (T : Table A K) (k : K) where
   pub part-alone : (x : A) (xs : List A) → T .is k x ≡ true → all (T .other x) xs ≡ true → part xs ≡ []
   part-alone x xs p a = those-none (T .other x) (T .is k) (λ y o. never-true (T .is k y) (λ e. contrary o (T .clash k x y p e))) xs a
 
-  pub part-one : (xs : List A) → distinct (T .other) xs ≡ true → (part xs ≡ []) ⊎ (part xs ≡ T .find k xs ∷ [])
-  part-one [] d = unfold those in inl refl
-  part-one (x ∷ xs) d =
-      let h = distinct-parts (T .other) x xs d in
-      by-first (λ l. (l ≡ []) ⊎ (l ≡ T .find k (x ∷ xs) ∷ [])) x xs
-      (λ e. inr (rw (part-alone x xs e (h .0), T .find-more k x xs, e)))
-      (λ e. rw (T .find-more k x xs, e) (part-one xs (h .1)))
-
   -- ---- found in the part
 
   pub find-part : (xs : List A) → T .find k (part xs) ≡ T .find k xs
@@ -205,26 +174,26 @@ module _ {A K : Type 0} (T : Table A K) (k : K) where
       let h = all-parts (T .is k) x l a in
       rw (put-first y e x l (h .0)) (all-more (T .is k) y l (rw e at (T .self y)) (h .1))
 
-  back-first : (y : A) → T .key y ≡ k → (l xs : List A) → all (T .is k) l ≡ true → T .back (T .put y l) xs ≡ T .put y xs
-  back-first y e [] xs a = rw (T .put-none y, T .back-some y [] xs)
-  back-first y e (x ∷ l) xs a = rw (put-first y e x l (all-parts (T .is k) x l a .0), T .back-some y l xs)
+  back-first : (y : A) → T .key y ≡ k → (l xs : List A) → all (T .is k) l ≡ true → putBack (T .put) (T .put y l) xs ≡ T .put y xs
+  back-first y e [] xs a = rw (T .put-none y)
+  back-first y e (x ∷ l) xs a = rw (put-first y e x l (all-parts (T .is k) x l a .0))
 
   -- put into the part and back: put into the whole
-  pub put-back : (y : A) → T .key y ≡ k → (xs : List A) → T .back (T .put y (part xs)) xs ≡ T .put y xs
+  pub put-back : (y : A) → T .key y ≡ k → (xs : List A) → putBack (T .put) (T .put y (part xs)) xs ≡ T .put y xs
   put-back y e xs = back-first y e (part xs) xs (part-keyed xs)
 
-  back-later : (l : List A) (x : A) (xs : List A) → all (T .is k) l ≡ true → T .is k x ≡ false → T .back l (x ∷ xs) ≡ x ∷ T .back l xs
-  back-later [] x xs a n = rw (T .back-none (x ∷ xs), T .back-none xs)
+  back-later : (l : List A) (x : A) (xs : List A) → all (T .is k) l ≡ true → T .is k x ≡ false → putBack (T .put) l (x ∷ xs) ≡ x ∷ putBack (T .put) l xs
+  back-later [] x xs a n = refl
   back-later (y ∷ l) x xs a n =
       let e : T .key y ≡ k = T .keyed k y (all-parts (T .is k) y l a .0) in
-      rw (T .back-some y l (x ∷ xs), T .back-some y l xs, put-later y e x xs n)
+      put-later y e x xs n
 
   -- the part itself put back: nothing changes
-  pub part-back : (xs : List A) → T .back (part xs) xs ≡ xs
-  part-back [] = unfold those in T .back-none []
+  pub part-back : (xs : List A) → putBack (T .put) (part xs) xs ≡ xs
+  part-back [] = unfold those in refl
   part-back (x ∷ xs) =
-      by-first (λ l. T .back l (x ∷ xs) ≡ x ∷ xs) x xs
-      (λ e. rw (T .back-some x (part xs) (x ∷ xs), T .put-more x x xs, T .self x))
+      by-first (λ l. putBack (T .put) l (x ∷ xs) ≡ x ∷ xs) x xs
+      (λ e. rw (T .put-more x x xs, T .self x))
       (λ e. rw (back-later (part xs) x xs (part-keyed xs) e, part-back xs))
 
   -- ---- what a test drops may be changed before it

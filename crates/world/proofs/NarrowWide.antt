@@ -15,7 +15,7 @@ use Rattle.rules.specs.State.{Generator, Transfer, Relay, withKnown, withPendin
 use Rattle.rules.specs.Generators.{generatorFor, putGenerator, Turn, proposes, proposalHeard, convergedHeard}
 use Rattle.rules.specs.Relays.{atGenerator, joinAsked, leaveAsked, timerRang, requestHeard, learns, isFor, putTransfer, passes, moved, onward, enters, tested, early, handed, takesInstall, sentFirst, installHeard, stateHeard, serves, getHeard, putHeard, relayHears}
 use Rattle.rules.proofs.Generators.{view-of}
-use Rattle.world.specs.Narrow.{generatorOfBody, Move, move, moveOfBody, withTables, narrow, putBackGenerator, widened, widens}
+use Rattle.world.specs.Narrow.{generatorOfBody, Move, move, moveOfBody, withTables, narrow, putBack, widened, widens}
 use Rattle.world.specs.Commits.{relayAsked}
 use Rattle.world.proofs.NarrowTurn.{proposes-leaves, proposal-leaves, converged-leaves, keeps-move, gathers-move}
 use Rattle.world.proofs.NarrowTable.{byView, byMove, freed-move, find-part, put-back, part-back, put-dropped}
@@ -77,7 +77,7 @@ module _ (r : Relay) (v : ℕ) (m : Move) where
     kept-wide = rw (part-back byView v (r .generators), eq-eqb (h .view) (r .view) e, put-back byMove m t p (r .transfers))
 
     -- r has entered, and has the generators gs; its part has ps
-    entry-wide : (b : Bool) (gs ps : List Generator) → gs ≡ putBackGenerator ps (r .generators)
+    entry-wide : (b : Bool) (gs ps : List Generator) → gs ≡ putBack putGenerator ps (r .generators)
         → withGenerators (moved (withTransfers (whole h) (putTransfer t (r .transfers))) t b) gs
         ≡ widened r (withGenerators (moved (withTransfers (shown h) (putTransfer t (shown h .transfers))) t b) ps)
     unfolding widened withTransfers withGenerators moved

@@ -152,10 +152,6 @@ module _ (b : List ℕ) (good : goodBytes b ≡ true) (p : ℕ) (hp : p < 256) w
     unfolding acts delivery
     held-alive e = rw is (alive-left b (m .to) (delivers (freed w p) m) e)
 
-    pub held-dropped : left b (acts w (drop p)) ≡ left b (dropping w p (waiting m))
-    unfolding acts
-    held-dropped = rw is
-
   abbrev u : World
   u = freed w p
 

@@ -61,20 +61,17 @@ withTables r gs ts =
 unfoldable pub narrow : Relay → ℕ → Move → Relay
 narrow r v m = withTables r (those (λ g. eqb (g .view) v) (r .generators)) (those (isFor (m .old) (m .new)) (r .transfers))
 
-abbrev pub putBackGenerator : List Generator → List Generator → List Generator
-putBackGenerator [] gs = gs
-putBackGenerator (g ∷ more) gs = putGenerator g gs
-
-abbrev pub putBackTransfer : List Transfer → List Transfer → List Transfer
-putBackTransfer [] ts = ts
-putBackTransfer (t ∷ more) ts = putTransfer t ts
+-- what a part shows is put back into the whole; it shows at most one
+abbrev pub putBack : {A : Type 0} → (A → List A → List A) → List A → List A → List A
+putBack into [] xs = xs
+putBack into (x ∷ more) xs = into x xs
 
 -- the whole relay r after a rule made n of its part: an entry, and nothing else, changes the view, and frees transfers
 unfoldable pub widened : Relay → Relay → Relay
 widened r n =
-    withTables n (putBackGenerator (n .generators) (r .generators))
+    withTables n (putBack putGenerator (n .generators) (r .generators))
     (if eqb (n .view) (r .view)
-    then putBackTransfer (n .transfers) (r .transfers)
+    then putBack putTransfer (n .transfers) (r .transfers)
     else those (λ u. inside (n .view) (u .new)) (r .transfers))
 
 abbrev pub widens : Relay → Answer Relay → Answer Relay
