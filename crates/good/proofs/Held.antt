@@ -1,6 +1,6 @@
 -- Tests of each number below n, as tests of lists, and of bytes that stand in a buffer. Assumes nothing.
 use mathlib.Core.Path.{_≡_, refl, sym, ap, _∙_}
-use mathlib.Core.Bool.{Bool, true, false, and-true}
+use mathlib.Core.Bool.{Bool, true, false, not, and-true}
 use mathlib.Core.List.{List, [], _∷_, _++_}
 use Prim.Native.Nat.{ℕ, zero, suc, _+_, _*_, _-_, _≤_, _<_}
 use native.Mathlib.Nat.{add-zero, zero-add, add-assoc}
@@ -18,6 +18,7 @@ use Rattle.rules.specs.Sets.{_&&_}
 use Rattle.rules.specs.Sets as sets
 use Rattle.rules.specs.WellFormed.{allFrom, distinct}
 use Rattle.good.specs.Rows.{held, differs}
+use Rattle.good.proofs.Tests.{both-fail, both-pass, no, yes}
 
 -- ---- tests of a list
 
@@ -80,6 +81,14 @@ module _ {A : Type 0} where
 
 pub written : {l : List ℕ} (a b : List ℕ) → length b ≡ length a → l ≡ placed a 0 b → l ≡ b
 written a b e h = h ∙ placed-fits a b 0 (omega arith) ∙ splice-whole a b e
+
+-- of a row that means y: what was read, x, is tested, written to a row of its own, and compared
+module _ {A : Type 0} (good : A → Bool) (enc : A → List ℕ) {x y : A} (is : x ≡ y) {r : Bool} (e : r ≡ good x) where
+  pub row-fails : (b : Bool) → not r ≡ true → false ≡ good y && b
+  row-fails b t = both-fail b (ap good (sym is) ∙ no e t)
+
+  pub row-answers : {h : Bool} {row : List ℕ} (a l : List ℕ) (o : ℕ) → not r ≡ false → length (enc x) ≡ length a → row ≡ placed a 0 (enc x) → h ≡ held l o row → h ≡ good y && held l o (enc y)
+  row-answers a l o t n w h = both-pass (ap good (sym is) ∙ yes e t) (h ∙ ap (held l o) (written a _ n w ∙ ap enc is))
 
 module _ (l : List ℕ) (o : ℕ) (b : List ℕ) where
   pub held-true : Holds l o b → held l o b ≡ true

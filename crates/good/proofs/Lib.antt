@@ -1,6 +1,5 @@
 pub mod Tests
 pub mod Held
 pub mod Messages
-pub mod Filled
 pub mod Rows
 pub mod World

@@ -1,28 +1,33 @@
 -- A table of eight places that are filled from the lowest: its test by rows says that what is filled is good and that the table's bytes are those of what
 -- is filled. Of any row, enc its bytes, dec its reading. Assumes nothing.
 use mathlib.Core.Path.{_≡_, refl, sym, ap, _∙_}
-use mathlib.Core.Bool.{Bool, true, false, and-eq-true-iff}
+use mathlib.Core.Bool.{Bool, true, false, and-eq-true-iff, or-true}
 use mathlib.Core.List.{List, [], _∷_}
 use Prim.Native.Nat.{ℕ, zero, suc, _+_, _*_, _-_, _≤_, _<_}
+use native.Mathlib.Nat.{le-trans, mul-le-mul-left, mul-le-mul-right}
 use native.Mathlib.Omega.{arith}
 use lib.Dec.{leb}
 use lib.ListN.{length, getD, List·getD-eq-default}
 use borrow.Author.Tests.{leb-true, leb-false, le-leb}
 use Rattle.rows.specs.Bytes.{tab, table, zeros}
+use Rattle.rows.specs.Tests as rows
 use Rattle.rows.specs.Tests.{allZero}
 use Rattle.rows.proofs.All.{all-at, all-every}
 use Rattle.rows.proofs.Laws.{Holds, run-inside, length-tab, getD-tab, tab-getD}
 use Rattle.rows.proofs.Held.{run-held, zeros-held, zeros-pass}
 use Rattle.rows.proofs.Tables.{table-length, table-holds}
-use Rattle.views.proofs.Truth.{same-truth, contrary}
-use Rattle.rules.specs.Sets.{_&&_, those, all, allHold}
+use Rattle.views.proofs.Truth.{same-truth}
+use Rattle.rules.specs.Sets.{_&&_, _||_, those, all, allHold}
 use Rattle.rules.specs.WellFormed.{distinct}
 use Rattle.rules.proofs.Hold.{hold-facts, hold-tests}
 use Rattle.rules.proofs.ImageFits.{RowsFit}
 use Rattle.rules.proofs.ImageRows.{rows-back}
-use Rattle.good.specs.Rows.{held, filledGood, differs}
+use Rattle.good.specs.Rows.{held, differs}
 use Rattle.good.proofs.Held.{all-tab, all-list, distinct-tab, all-same, held-true, held-fact, zero-part, zero-join, all-none-zero}
-use Rattle.good.proofs.Filled.{at-blank, at-good}
+
+-- k rows of a table that is at most 592 wide
+pub rows-inside : (k n w : ℕ) → k ≤ n → w ≤ 592 → k * w ≤ n * 592
+rows-inside k n w h e = le-trans (mul-le-mul-right w h) (mul-le-mul-left n e)
 
 module _ {A : Type 0} (enc : A → List ℕ) (d : A) (w : ℕ) (wide : (x : A) → length (enc x) ≡ w) (blank : enc d ≡ zeros w)
     (filled : A → Bool) (unfilled : filled d ≡ false) (good : A → Bool) (differ : A → A → Bool)
@@ -33,10 +38,10 @@ module _ {A : Type 0} (enc : A → List ℕ) (d : A) (w : ℕ) (wide : (x : A) �
   row k = dec l (o + k * w)
 
   abbrev test : ℕ → Bool
-  test k = (good (row k) && held l (o + k * w) (enc (row k))) && differs differ row k
+  test k = differs differ row k && (good (row k) && held l (o + k * w) (enc (row k)))
 
-  abbrev byRows : ℕ → ℕ → Bool
-  byRows = filledGood (λ k. filled (row k)) test (λ k n. allZero l (o + k * w) (n * w))
+  abbrev byRow : ℕ → Bool
+  byRow k = allZero l (o + k * w) ((8 - k) * w) || test k
 
   abbrev whole : List A → Bool
   whole xs = allHold (leb (length xs) 8 ∷ all good xs ∷ distinct differ xs ∷ []) && held l o (table enc d 8 xs)
@@ -53,10 +58,9 @@ module _ {A : Type 0} (enc : A → List ℕ) (d : A) (w : ℕ) (wide : (x : A) �
     each : (k : ℕ) → k < n → test k ≡ true
     rest : (k : ℕ) → n ≤ k → k < 8 → Holds l (o + k * w) (zeros w)
 
-  front : (k i : ℕ) → i + k ≡ 8 → ((j : ℕ) → j < i → test j ≡ true) → byRows k i ≡ true → Front
-  unfolding filledGood
+  front : (k i : ℕ) → i + k ≡ 8 → ((j : ℕ) → j < i → test j ≡ true) → rows.all 8 byRow ≡ true → Front
   front zero i e each h = record { n = i; few = omega arith; each = each; rest = λ k p q. absurd (omega arith) }
-  front (suc k) i e each h = go (filled (row i)) refl (λ each h. front k (suc i) (omega arith) each h)
+  front (suc k) i e each h = go (allZero l (o + i * w) ((8 - i) * w)) refl (λ each. front k (suc i) (omega arith) each h)
     where
       next : test i ≡ true → (j : ℕ) → j < suc i → test j ≡ true
       next t j p = case (leb i j) refl
@@ -65,31 +69,22 @@ module _ {A : Type 0} (enc : A → List ℕ) (d : A) (w : ℕ) (wide : (x : A) �
           case true f = let z : j ≡ i = omega (arith, leb-true i j f) in rw z t
           case false f = each j (leb-false i j f)
 
-      go : (b : Bool) → filled (row i) ≡ b → (((j : ℕ) → j < suc i → test j ≡ true) → byRows k (suc i) ≡ true → Front) → Front
-      go true f rec =
-          let t = and-eq-true-iff (test i) (byRows k (suc i)) .0 (rw (f) at h) in
-          rec (next (t .0)) (t .1)
-      go false f rec =
-          let z : allZero l (o + i * w) (suc k * w) ≡ true = rw f at h in
-          record {
-            n = i;
-            few = omega arith;
-            each = each;
-            rest = λ j p q. part j p q z;
-          }
-        where
-          part : (j : ℕ) → i ≤ j → j < 8 → allZero l (o + i * w) (suc k * w) ≡ true → Holds l (o + j * w) (zeros w)
-          part j p q z =
-              let m : j * w ≡ i * w + (j - i) * w = rw (ap (λ (t : ℕ). t * w) (let s : j ≡ i + (j - i) = omega arith in s)) (omega arith) in
-              let same : o + i * w + (j - i) * w ≡ o + j * w = omega arith in
-              zeros-held l (o + j * w) w (inside j q)
-              (rw same at (zero-part l (o + i * w) (suc k * w) ((j - i) * w) w (run-inside w (j - i) (suc k) (omega arith)) z))
+      part : allZero l (o + i * w) ((8 - i) * w) ≡ true → (j : ℕ) → i ≤ j → j < 8 → Holds l (o + j * w) (zeros w)
+      part z j p q =
+          let m : j * w ≡ i * w + (j - i) * w = rw (ap (λ (t : ℕ). t * w) (let s : j ≡ i + (j - i) = omega arith in s)) (omega arith) in
+          let same : o + i * w + (j - i) * w ≡ o + j * w = omega arith in
+          zeros-held l (o + j * w) w (inside j q)
+          (rw same at (zero-part l (o + i * w) ((8 - i) * w) ((j - i) * w) w (run-inside w (j - i) (8 - i) (omega arith)) z))
+
+      go : (b : Bool) → allZero l (o + i * w) ((8 - i) * w) ≡ b → (((j : ℕ) → j < suc i → test j ≡ true) → Front) → Front
+      go true z rec = record { n = i; few = omega arith; each = each; rest = part z }
+      go false z rec = rec (next (rw z at (all-at 8 i byRow h (omega arith))))
 
   module _ (f : Front) where
-    parts : (k : ℕ) → k < f .n → ((good (row k) ≡ true) × (held l (o + k * w) (enc (row k)) ≡ true)) × (differs differ row k ≡ true)
+    parts : (k : ℕ) → k < f .n → (differs differ row k ≡ true) × ((good (row k) ≡ true) × (held l (o + k * w) (enc (row k)) ≡ true))
     parts k h =
-        let t = and-eq-true-iff (good (row k) && held l (o + k * w) (enc (row k))) (differs differ row k) .0 (f .each k h) in
-        (and-eq-true-iff (good (row k)) (held l (o + k * w) (enc (row k))) .0 (t .0), t .1)
+        let t = and-eq-true-iff (differs differ row k) (good (row k) && held l (o + k * w) (enc (row k))) .0 (f .each k h) in
+        (t .0, and-eq-true-iff (good (row k)) (held l (o + k * w) (enc (row k))) .0 (t .1))
 
     filled-rows : List A
     filled-rows = tab (f .n) row
@@ -110,12 +105,12 @@ module _ {A : Type 0} (enc : A → List ℕ) (d : A) (w : ℕ) (wide : (x : A) �
         record {
           few = omega (arith, long, f .few);
           each = λ k. one k (leb (f .n) k) refl;
-          full = λ k h. let p : k < f .n = omega (arith, long) in rw (before k p) (full (row k) (parts k p .0 .0));
+          full = λ k h. let p : k < f .n = omega (arith, long) in rw (before k p) (full (row k) (parts k p .1 .0));
         }
       where
         one : (k : ℕ) (b : Bool) → leb (f .n) k ≡ b → Fits (getD filled-rows k d)
         one k true e = rw (after k (leb-true (f .n) k e)) none-fits
-        one k false e = let p = leb-false (f .n) k e in rw (before k p) (fits (row k) (parts k p .0 .0))
+        one k false e = let p = leb-false (f .n) k e in rw (before k p) (fits (row k) (parts k p .1 .0))
 
     rows-held : Holds l o (table enc d 8 filled-rows)
     rows-held =
@@ -125,15 +120,15 @@ module _ {A : Type 0} (enc : A → List ℕ) (d : A) (w : ℕ) (wide : (x : A) �
         one k h true e = let p = leb-true (f .n) k e in rw (after k p, blank) (f .rest k p h)
         one k h false e =
             let p = leb-false (f .n) k e in
-            rw (before k p) (held-fact l (o + k * w) (enc (row k)) (rw (wide (row k)) (inside k h)) (parts k p .0 .1))
+            rw (before k p) (held-fact l (o + k * w) (enc (row k)) (rw (wide (row k)) (inside k h)) (parts k p .1 .1))
 
     rows-good : all good filled-rows ≡ true
     unfolding filled-rows
-    rows-good = all-tab (f .n) good row ∙ all-every (f .n) (λ k. good (row k)) (λ k h. parts k h .0 .0)
+    rows-good = all-tab (f .n) good row ∙ all-every (f .n) (λ k. good (row k)) (λ k h. parts k h .1 .0)
 
     rows-apart : distinct differ filled-rows ≡ true
     unfolding filled-rows
-    rows-apart = distinct-tab (f .n) differ row ∙ all-every (f .n) (differs differ row) (λ k h. parts k h .1)
+    rows-apart = distinct-tab (f .n) differ row ∙ all-every (f .n) (differs differ row) (λ k h. parts k h .0)
 
     rows-whole : whole filled-rows ≡ true
     rows-whole =
@@ -196,29 +191,14 @@ module _ {A : Type 0} (enc : A → List ℕ) (d : A) (w : ℕ) (wide : (x : A) �
         (zero-join l (o + i * w) (k * w) w (zero-rows k i (omega arith) p)
         (rw same (zeros-pass l (o + (i + k) * w) w (rw (past (i + k) (omega arith), blank) at (holds-at (i + k) (omega arith))))))
 
-    by-rows : (k i : ℕ) → i + k ≡ 8 → byRows k i ≡ true
-    unfolding filledGood
-    by-rows zero i e = refl
-    by-rows (suc k) i e = go (filled (row i)) refl (by-rows k (suc i) (omega arith))
+    by-rows : rows.all 8 byRow ≡ true
+    by-rows = all-every 8 byRow (λ k p. one k p (leb (length xs) k) refl)
       where
-        small : i < 8
-        small = omega arith
+        one : (k : ℕ) → k < 8 → (b : Bool) → leb (length xs) k ≡ b → byRow k ≡ true
+        one k p true e = rw (zero-rows (8 - k) k (omega arith) (leb-true (length xs) k e))
+        one k p false e = rw (test-at k (leb-false (length xs) k e)) (or-true (allZero l (o + k * w) ((8 - k) * w)))
 
-        go : (b : Bool) → filled (row i) ≡ b → byRows k (suc i) ≡ true → byRows (suc k) i ≡ true
-        go true f rec =
-            at-good (λ k. filled (row k)) test (λ k n. allZero l (o + k * w) (n * w)) k i f (test-at i (case (leb (length xs) i) refl)) ∙ rec
-          where
-            case : (b : Bool) → leb (length xs) i ≡ b → i < length xs
-            case false t = leb-false (length xs) i t
-            case true t = absurd (contrary f (rw (row-is i small, past i (leb-true (length xs) i t)) unfilled))
-        go false f rec =
-            at-blank (λ k. filled (row k)) test (λ k n. allZero l (o + k * w) (n * w)) k i f ∙ zero-rows (suc k) i (omega arith) (case (leb (length xs) i) refl)
-          where
-            case : (b : Bool) → leb (length xs) i ≡ b → length xs ≤ i
-            case true t = leb-true (length xs) i t
-            case false t = absurd (contrary (rw (row-is i small) (full (getD xs i d) (good-at i (leb-false (length xs) i t)))) f)
-
-  pub rows-same : byRows 8 0 ≡ whole (those filled (tab 8 row))
+  pub rows-same : rows.all 8 byRow ≡ whole (those filled (tab 8 row))
   rows-same =
-      same-truth (byRows 8 0) (whole (those filled (tab 8 row))) (λ h. rows-read (front 8 0 refl (λ j p. absurd (omega arith)) h))
-      (λ h. by-rows (those filled (tab 8 row)) h 8 0 refl)
+      same-truth (rows.all 8 byRow) (whole (those filled (tab 8 row))) (λ h. rows-read (front 8 0 refl (λ j p. absurd (omega arith)) h))
+      (by-rows (those filled (tab 8 row)))

@@ -1,12 +1,11 @@
 // A relay's eight generators.
 ghost use mathlib.Core.Path.{_≡_};
-ghost use Prim.Native.Nat.{_+_, _*_, _≤_, _<_};
+ghost use Prim.Native.Nat.{_+_, _≤_};
 ghost use lib.ListN.{length};
 ghost use Rattle.views.specs.Row.{viewsOf};
-ghost use Rattle.rules.specs.WellFormed.{goodNote, goodNotes, goodGenerator, otherView};
-ghost use Rattle.rules.specs.Image.{generatorAt};
+ghost use Rattle.rules.specs.WellFormed.{goodNote, goodNotes, goodGenerator};
 ghost use Rattle.state.specs.Meaning.{notesOf, generatorOf};
-ghost use Rattle.good.specs.Rows.{generatorGood, differs, generatorsGood};
+ghost use Rattle.good.specs.Rows.{rowGood};
 use state::Generator;
 use state::Notes;
 use views::Sequence;
@@ -66,9 +65,9 @@ fn good_generator(s: u8, g: Generator) -> bool
     good_notes(v, convergences)
 }
 
-fn good_generator_row(w: &[u8], s: u8, at: usize) -> bool
+pub(crate) fn good_generator_row(w: &[u8], s: u8, at: usize) -> bool
     requires { ⌜ at + 592 ≤ length (now w) ⌝ }
-    ensures { λ r. ⌜ r ≡ generatorGood (now (w .entry)) s at ⌝ }
+    ensures { λ r. ⌜ r ≡ rowGood 592 (now (w .entry)) s at ⌝ }
 {
     let g = image::generator_at(w, at);
     if !good_generator(s, g) {
@@ -77,37 +76,4 @@ fn good_generator_row(w: &[u8], s: u8, at: usize) -> bool
     let mut row = [0u8; 592];
     image::put_generator(&mut row, 0, g);
     super::parts::same_part(&row, w, at)
-}
-
-// The generators before place i have other views than the one there.
-fn other_views(w: &[u8], at: usize, i: usize) -> bool
-    requires { ⌜ (at + 4736 ≤ length (now w)) × (i < 8) ⌝ }
-    ensures { λ r. ⌜ r ≡ differs otherView (λ j. generatorAt (now (w .entry)) (at + j * 592)) i ⌝ }
-{
-    let v = rows::read_u16(w, at + i * 592);
-    for j in 0..i {
-        if rows::read_u16(w, at + j * 592) == v {
-            return false;
-        }
-    }
-    true
-}
-
-pub(crate) fn good_generators(w: &[u8], s: u8, at: usize) -> bool
-    requires { ⌜ at + 4736 ≤ length (now w) ⌝ }
-    ensures { λ r. ⌜ r ≡ generatorsGood (now (w .entry)) s at 8 0 ⌝ }
-{
-    for i in 0..8usize {
-        let o = at + i * 592;
-        if rows::read_u16(w, o) == 0 {
-            return rows::is_zero(w, o, (8 - i) * 592);
-        }
-        if !good_generator_row(w, s, o) {
-            return false;
-        }
-        if !other_views(w, at, i) {
-            return false;
-        }
-    }
-    true
 }

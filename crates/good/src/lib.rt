@@ -8,6 +8,7 @@ mod generators; // of a relay
 mod parts; // of rows
 mod places; // of messages
 mod relays;
+mod tables; // of a relay
 mod transfers; // of a relay
 
 pub fn is_good(w: &[u8]) -> bool

@@ -69,10 +69,10 @@ fn good_relay(w: &[u8], s: u8) -> bool
     if !good_head_row(w, s, at) {
         return false;
     }
-    if !super::generators::good_generators(w, s, at + 64) {
+    if !super::tables::good_table(w, s, at + 64, 592) {
         return false;
     }
-    super::transfers::good_transfers(w, s, at + 4800)
+    super::tables::good_table(w, s, at + 4800, 80)
 }
 
 pub(crate) fn good_relays(w: &[u8]) -> bool

@@ -13,14 +13,14 @@ returns-2 : tie.Need-returns-2
 unfolding relayGood
 returns-2 c =
     let t = c .before .before in
-    both-pass (yes (t .before .good-head-row .ensures) (t .if1 .left)) (both-fail _ (no (c .before .good-generators .ensures) (c .if2 .taken)))
+    both-pass (yes (t .before .good-head-row .ensures) (t .if1 .left)) (both-fail _ (no (c .before .good-table .ensures) (c .if2 .taken)))
 
 returns-3 : tie.Need-returns-3
 unfolding relayGood
 returns-3 c =
     let u = c .before in
     let t = u .before .before in
-    both-pass (yes (t .before .good-head-row .ensures) (t .if1 .left)) (both-pass (yes (u .before .good-generators .ensures) (u .if2 .left)) (c .good-transfers .ensures))
+    both-pass (yes (t .before .good-head-row .ensures) (t .if1 .left)) (both-pass (yes (u .before .good-table .ensures) (u .if2 .left)) (c .good-table2 .ensures))
 
 pub good-relay-spec : {M : Type 1} → statement M
 good-relay-spec = tie.close (tie.spec (λ c. search needs) (λ c κs. search needs) returns (λ c. search needs) (λ c κs. search needs) returns-2 (λ c. search needs) (λ c κs. search needs) returns-3)
