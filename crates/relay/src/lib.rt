@@ -4,6 +4,7 @@ ghost use mathlib.Core.Bool.{true, _&&_};
 ghost use mathlib.Core.List.{[], _∷_};
 ghost use Prim.Native.Nat.{_<_};
 ghost use lib.Dec.{ltb};
+ghost use Rattle.views.specs.Choice.{if_then_else_};
 ghost use Rattle.views.specs.Row.{viewsOf};
 ghost use Rattle.rules.specs.State.{noRelay, withTransfers};
 ghost use Rattle.rules.specs.Generators.{generatorFor, convergedHeard};
@@ -124,30 +125,19 @@ fn request_heard(p: Part, from: u8, u: u16, c: u16) -> Plan
 
 // ---- proposals and convergences
 
-fn proposal_heard(p: Part, from: u8, v: u16, q: Sequence) -> Plan
-    ensures { λ r. ⌜ planOf r ≡ planned noRelay (ifFitting (showsView v (partOf p)) (rules.atGenerator (partOf p) (heardInRow (generatorFor v (partOf p .generators)) from (viewsOf q)))) ⌝ }
+// A proposal comes, or a convergence.
+fn sequence_heard(p: Part, from: u8, v: u16, q: Sequence, converged: bool) -> Plan
+    ensures { λ r. ⌜ planOf r ≡ planned noRelay (ifFitting (showsView v (partOf p)) (rules.atGenerator (partOf p) (
+        let g = generatorFor v (partOf p .generators) in if converged then convergedHeard g from (viewsOf q) else heardInRow g from (viewsOf q)))) ⌝ }
 {
     if !parts::shows_view(p, v) {
         return parts::refuses(2);
     }
-    at_generator(
-        p,
-        v,
-        generator::proposal_heard(parts::generator_for(p, v), from, q),
-    )
-}
-
-fn converged_heard(p: Part, from: u8, v: u16, q: Sequence) -> Plan
-    ensures { λ r. ⌜ planOf r ≡ planned noRelay (ifFitting (showsView v (partOf p)) (rules.atGenerator (partOf p) (convergedHeard (generatorFor v (partOf p .generators)) from (viewsOf q)))) ⌝ }
-{
-    if !parts::shows_view(p, v) {
-        return parts::refuses(2);
+    let g = parts::generator_for(p, v);
+    if converged {
+        return at_generator(p, v, generator::converged_heard(g, from, q));
     }
-    at_generator(
-        p,
-        v,
-        generator::converged_heard(parts::generator_for(p, v), from, q),
-    )
+    at_generator(p, v, generator::proposal_heard(g, from, q))
 }
 
 // ---- entry
@@ -298,10 +288,10 @@ pub fn hears(s: u8, p: Part, from: u8, b: Body) -> Plan
         return parts::quietly(transfers::learns(p, b.first));
     }
     if kind == 3 {
-        return proposal_heard(p, from, b.first, q);
+        return sequence_heard(p, from, b.first, q, false);
     }
     if kind == 4 {
-        return converged_heard(p, from, b.first, q);
+        return sequence_heard(p, from, b.first, q, true);
     }
     if kind == 5 {
         return install_heard(s, p, b.first, b.second, q);

@@ -22,11 +22,11 @@ returns-2 c = c .quietly .ensures ∙ rw (c .before .before .if2 .taken, c .befo
 
 returns-3 : tie.Need-returns-3
 unfolding hearsAnswer hearsInRow relayHears fitting bodyOf bodyIn
-returns-3 c = c .proposal-heard .ensures ∙ rw (c .before .if3 .taken)
+returns-3 c = c .sequence-heard .ensures ∙ rw (c .before .if3 .taken)
 
 returns-4 : tie.Need-returns-4
 unfolding hearsAnswer hearsInRow relayHears fitting bodyOf bodyIn
-returns-4 c = c .converged-heard .ensures ∙ rw (c .before .if4 .taken)
+returns-4 c = c .sequence-heard2 .ensures ∙ rw (c .before .if4 .taken)
 
 returns-5 : tie.Need-returns-5
 unfolding hearsAnswer hearsInRow relayHears fitting bodyOf bodyIn
