@@ -13,7 +13,7 @@ use borrow.Author.Tests.{eqb-true}
 use Rattle.views.specs.declared.Sequence.{Sequence}
 use Rattle.views.specs.Choice.{if_then_else_, those}
 use Rattle.views.specs.Row.{viewsOf, rowOf}
-use Rattle.views.proofs.Truth.{cases}
+use Rattle.views.proofs.Truth.{cases, contrary}
 use Rattle.views.proofs.Rows.{views-length, held}
 use Rattle.rules.specs.Sets.{joins, leaves, member, inside, none, same, beyond, all}
 use Rattle.rules.specs.Stamps.{Pair}
@@ -68,6 +68,11 @@ pub put-transfer : (b : Bool) (u t : Transfer) → all (isFor (t .old) (t .new))
 unfolding all putTransfer
 put-transfer true u t shown = rw (sym (and-true (isFor (t .old) (t .new) u)) ∙ shown)
 put-transfer false u t shown = refl
+
+pub transfer-shown : (b x : Bool) (o w : ℕ) (u : Transfer) → b ≡ true → all (isFor o w) (asList b u) ≡ x → transferFor o w (asList b u) ≡ (if x then u else freshTransfer o w)
+unfolding all transferFor
+transfer-shown true x o w u e s = rw (sym (and-true (isFor o w u)) ∙ s)
+transfer-shown false x o w u e s = absurd (contrary e refl)
 
 -- ---- updates, as a shift makes them
 

@@ -66,13 +66,7 @@ pub fn quietly(p: Part) -> Plan
 pub fn sends(p: Part, s: Sending) -> Plan
     ensures { λ r. ⌜ planOf r ≡ planned noRelay (rules.sends (partOf p) (sendingOf s ∷ [])) ⌝ }
 {
-    Plan {
-        answer: 0,
-        part: p,
-        first: s,
-        second: messages::no_sending(),
-        event: Event::Nothing,
-    }
+    sent_first(s, quietly(p))
 }
 
 // A plan that is no refusal, with a sending that the rule names first.

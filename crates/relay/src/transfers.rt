@@ -32,10 +32,7 @@ pub fn transfer_for(p: Part, o: u16, w: u16) -> Transfer
     if !p.transfers {
         return fresh(o, w);
     }
-    if p.transfer.old != o {
-        return fresh(o, w);
-    }
-    if p.transfer.new != w {
+    if !super::parts::shows_move(p, o, w) {
         return fresh(o, w);
     }
     p.transfer
