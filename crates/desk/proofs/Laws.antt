@@ -1,6 +1,6 @@
 -- What the tests of a reply say. Assumes nothing.
 use Prim.Native.Nat.{ℕ, _<_, _≤_, _+_, _-_, _/_, _%_}
-use mathlib.Core.Path.{_≡_, refl}
+use mathlib.Core.Path.{_≡_, refl, _∙_}
 use mathlib.Core.Bool.{Bool, true, false, not, _&&_, _||_, and-eq-true-iff}
 use native.Mathlib.Omega.{arith}
 use lib.Dec.{eqb, leb}
@@ -13,7 +13,7 @@ use Rattle.rules.specs.Sets.{if_then_else_, member}
 use Rattle.rules.specs.Messages as rules
 use Rattle.rules.specs.declared.Desk.{Desk}
 use Rattle.rules.specs.Image.{bodyIn}
-use Rattle.rules.specs.Desks.{isIdle, current, deskHears}
+use Rattle.rules.specs.Desks.{isIdle, current, viewCame, pairCame, ackCame, deskHears}
 use Rattle.state.specs.declared.Body.{Body}
 use Rattle.state.specs.Meaning.{bodyOf}
 
@@ -57,13 +57,24 @@ module _ (n : ℕ) (d : Desk) (from : ℕ) (b : Body) (e : leb 1 (b .kind) && le
       from-kind 8 h8 (record { does = refl }) (λ h9.
       absurd (omega (arith, leb-true (b .kind) 8 (h .1))))))))))) .does)
 
--- any number but 1 to 10 says an acknowledgement
+-- any other number is a reply's; any but 9 and 10 says an acknowledgement
 module _ (b : Body) (e : leb 1 (b .kind) && leb (b .kind) 8 ≡ false) where
   no-kind : (k : ℕ) → leb 1 k && leb k 8 ≡ true → eqb (b .kind) k ≡ false
   no-kind k t = ne-eqb (b .kind) k (λ q. contrary (rw q t) e)
 
-  pub says-ack : (b .kind ≡ 9 → ⊥) → (b .kind ≡ 10 → ⊥) → bodyOf b ≡ rules.ack (b .tries)
+  abbrev reply : rules.Body
+  reply = if eqb (b .kind) 9 then rules.viewReply (b .tries) (b .first) else if eqb (b .kind) 10 then rules.pairReply (b .tries) (b .pair) else rules.ack (b .tries)
+
+  says-reply : bodyOf b ≡ reply
   unfolding bodyOf bodyIn
-  says-ack h9 h10 =
-      rw (no-kind 1 refl, no-kind 2 refl, no-kind 3 refl, no-kind 4 refl, no-kind 5 refl, no-kind 6 refl, no-kind 7 refl, no-kind 8 refl)
-      (rw (ne-eqb (b .kind) 9 h9, ne-eqb (b .kind) 10 h10))
+  says-reply = rw (no-kind 1 refl, no-kind 2 refl, no-kind 3 refl, no-kind 4 refl, no-kind 5 refl, no-kind 6 refl, no-kind 7 refl, no-kind 8 refl)
+
+  pub says-ack : (b .kind ≡ 9 → ⊥) → (b .kind ≡ 10 → ⊥) → bodyOf b ≡ rules.ack (b .tries)
+  says-ack h9 h10 = says-reply ∙ rw (ne-eqb (b .kind) 9 h9, ne-eqb (b .kind) 10 h10)
+
+  pub unheard : (n : ℕ) (d : Desk) (from : ℕ) → current d from (b .tries) ≡ false → deskHears n d from (bodyOf b) ≡ rules.quietly d
+  unfolding deskHears viewCame pairCame ackCame
+  unheard n d from f =
+      let q : Quiet n d from reply = cases (Quiet n d from) (eqb (b .kind) 9) (λ t. record { does = rw f })
+      (λ t. cases (Quiet n d from) (eqb (b .kind) 10) (λ t. record { does = rw f }) (λ t. record { does = rw f })) in
+      rw says-reply (q .does)

@@ -9,7 +9,7 @@ use state::Event;
 ghost use mathlib.Core.Path.{_≡_};
 ghost use mathlib.Core.List.{[]};
 ghost use Prim.Native.Nat.{_<_};
-ghost use Rattle.rules.specs.Sets.{if_then_else_};
+ghost use Rattle.rules.specs.Sets.{if_then_else_, inside};
 ghost use Rattle.rules.specs.Messages.{Refusal, number, not-now, refused, does, quietly};
 ghost use Rattle.rules.specs.State.{noDesk};
 ghost use Rattle.rules.specs.Desks as rule;
@@ -163,12 +163,9 @@ fn current(d: Desk, from: u8, tries: u16) -> bool
 }
 
 // "A view reply that strictly includes the desk's view is adopted and the phase starts again; any other does nothing."
-fn view_came(d: Desk, from: u8, tries: u16, v: u16) -> DeskPlan
-    ensures { λ r. ⌜ deskPlanOf r ≡ planned noDesk (rule.viewCame d from tries v) ⌝ }
+fn view_came(d: Desk, v: u16) -> DeskPlan
+    ensures { λ r. ⌜ deskPlanOf r ≡ planned noDesk (if inside (d .view) v then rule.begins d (d .phase) v (d .holds) else quietly d) ⌝ }
 {
-    if !current(d, from, tries) {
-        return does_nothing(d);
-    }
     if !views::inside(d.view, v) {
         return does_nothing(d);
     }
@@ -277,12 +274,9 @@ fn counted(n: u8, d: Desk) -> DeskPlan
     completes(n, d)
 }
 
-fn pair_came(n: u8, d: Desk, from: u8, tries: u16, p: Pair) -> DeskPlan
-    ensures { λ r. ⌜ deskPlanOf r ≡ planned noDesk (rule.pairCame n d from tries p) ⌝ }
+fn pair_came(n: u8, d: Desk, from: u8, p: Pair) -> DeskPlan
+    ensures { λ r. ⌜ deskPlanOf r ≡ planned noDesk (if rule.isFirst (d .phase) then rule.counted n (replyNoted d from p) else quietly d) ⌝ }
 {
-    if !current(d, from, tries) {
-        return does_nothing(d);
-    }
     let phase = d.phase;
     if !is_first(phase) {
         return does_nothing(d);
@@ -290,12 +284,10 @@ fn pair_came(n: u8, d: Desk, from: u8, tries: u16, p: Pair) -> DeskPlan
     counted(n, with_reply(d, from, p))
 }
 
-fn ack_came(n: u8, d: Desk, from: u8, tries: u16) -> DeskPlan
-    ensures { λ r. ⌜ deskPlanOf r ≡ planned noDesk (rule.ackCame n d from tries) ⌝ }
+fn ack_came(n: u8, d: Desk, from: u8) -> DeskPlan
+    requires { ⌜ from < 8 ⌝ }
+    ensures { λ r. ⌜ deskPlanOf r ≡ planned noDesk (if rule.isSecond (d .phase) then rule.counted n (rule.notesAck d from) else quietly d) ⌝ }
 {
-    if !current(d, from, tries) {
-        return does_nothing(d);
-    }
     let phase = d.phase;
     if !is_second(phase) {
         return does_nothing(d);
@@ -308,15 +300,18 @@ pub fn hears(n: u8, d: Desk, from: u8, b: Body) -> DeskPlan
     ensures { λ r. ⌜ deskPlanOf r ≡ planned noDesk (rule.deskHears n d from (bodyOf b)) ⌝ }
 {
     let kind = b.kind;
-    if kind == 9 {
-        return view_came(d, from, b.tries, b.first);
-    }
-    if kind == 10 {
-        let p = b.pair;
-        return pair_came(n, d, from, b.tries, p);
-    }
     if (1 <= kind) & (kind <= 8) {
         return does_nothing(d);
     }
-    ack_came(n, d, from, b.tries)
+    if !current(d, from, b.tries) {
+        return does_nothing(d);
+    }
+    if kind == 9 {
+        return view_came(d, b.first);
+    }
+    if kind == 10 {
+        let p = b.pair;
+        return pair_came(n, d, from, p);
+    }
+    ack_came(n, d, from)
 }
