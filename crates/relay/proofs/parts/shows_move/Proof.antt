@@ -1,4 +1,5 @@
 -- `relay::parts::shows_move` meets its contract. Assumes nothing.
+use native.Mathlib.Omega.{arith}
 use lib.Dec.{eqb}
 use borrow.Author.Tests.{eq-eqb, ne-eqb, not-true, not-false}
 use Rattle.rules.specs.Sets.{all}
@@ -13,17 +14,16 @@ returns c = rw (not-true (c .before .before .args .p .transfers) (c .if1 .taken)
 
 returns-2 : tie.Need-returns-2
 unfolding partOf relayOf transferOf all
-returns-2 c = rw (not-false (c .before .before .before .before .args .p .transfers) (c .before .before .if1 .left), ne-eqb _ _ (c .if2 .taken))
+returns-2 c =
+    let a = c .before .before .before .before .args in
+    rw (not-false (a .p .transfers) (c .before .before .if1 .left), ne-eqb (a .p .transfer .old) (a .o) (λ e. omega (arith, e, c .if2 .taken)))
 
 returns-3 : tie.Need-returns-3
 unfolding partOf relayOf transferOf all
 returns-3 c =
     let c3 = c .before .before .before in
-    rw (
-      not-false (c3 .before .before .args .p .transfers) (c3 .if1 .left),
-      eq-eqb _ _ (c .before .if2 .left),
-      and-true (eqb (c3 .before .before .args .p .transfer .new) (c3 .before .before .args .w)),
-    )
+    let a = c3 .before .before .args in
+    rw (not-false (a .p .transfers) (c3 .if1 .left), eq-eqb (a .p .transfer .old) (a .o) (omega (arith, c .before .if2 .left)), and-true (eqb (a .p .transfer .new) (a .w)))
 
 pub shows-move-spec : {M : Type 1} → statement M
 shows-move-spec = tie.close (tie.spec returns returns-2 returns-3)
