@@ -35,7 +35,7 @@ use Rattle.state.specs.declared.Head.{Head}
 use Rattle.state.specs.Meaning.{relayOf}
 use Rattle.image.specs.Parts.{headAt}
 use Rattle.image.proofs.Parts.{relay-parts, head-alone}
-use Rattle.good.specs.Rows.{held, differs, headGood, rowGood, otherRow, filledGood, deskGood, placeGood, relayGood, rowsGood}
+use Rattle.good.specs.Rows.{held, differs, headGood, rowGood, otherRow, placeFilled, filledGood, deskGood, placeGood, relayGood, rowsGood}
 use Rattle.good.proofs.Tests.{no-generators, no-transfers}
 use Rattle.good.proofs.Held.{and-assoc, from-tab, all-tab, held-true, held-fact}
 use Rattle.good.proofs.Rows.{rows-same}
@@ -61,14 +61,14 @@ unfilled-transfer = refl
 module _ (l : List ℕ) (s o : ℕ) where
   generators-same : o + 4736 ≤ length l → let gs = those filledGenerator (tab 8 (λ k. generatorAt l (o + k * 592))) in
       all 8 (filledGood 592 l s o) ≡ goodGenerators s gs && held l o (table generatorBytes (fresh 0) 8 gs)
-  unfolding filledGood differs otherRow rowGood goodGenerators
+  unfolding filledGood placeFilled differs otherRow rowGood goodGenerators
   generators-same room =
       rows-same generatorBytes (fresh 0) 592 length-generator generator-zeros filledGenerator unfilled-generator (goodGenerator s) otherView
       GeneratorFits (generator-fits s) no-generator (generator-filled s) generatorAt l (generator-back l) o room
 
   transfers-same : o + 640 ≤ length l → let ts = those filledTransfer (tab 8 (λ k. transferAt l (o + k * 80))) in
       all 8 (filledGood 80 l s o) ≡ goodTransfers s ts && held l o (table transferBytes (freshTransfer 0 0) 8 ts)
-  unfolding filledGood differs otherRow rowGood goodTransfers
+  unfolding filledGood placeFilled differs otherRow rowGood goodTransfers
   transfers-same room =
       rows-same transferBytes (freshTransfer 0 0) 80 length-transfer transfer-zeros filledTransfer unfilled-transfer (goodTransfer s) otherMove
       TransferFits (transfer-fits s) no-transfer (transfer-filled s) transferAt l (transfer-back l) o room

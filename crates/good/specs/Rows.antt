@@ -50,10 +50,13 @@ otherRow n l a b = if eqb n 592 then otherView (generatorAt l a) (generatorAt l 
 unfoldable pub differs : {A : Type 0} → (A → A → Bool) → (ℕ → A) → ℕ → Bool
 differs differ at i = all i (λ j. differ (at j) (at i))
 
--- "generator and transfer places name different views or pairs and are filled from the lowest": place i differs from those before it and is good, or from
--- it on all is zero
+-- place i differs from those before it and is good
+unfoldable pub placeFilled : ℕ → List ℕ → ℕ → ℕ → ℕ → Bool
+placeFilled n l s o i = differs (otherRow n l) (λ j. o + j * n) i && rowGood n l s (o + i * n)
+
+-- "generator and transfer places name different views or pairs and are filled from the lowest": it is so, or from place i on all is zero
 unfoldable pub filledGood : ℕ → List ℕ → ℕ → ℕ → ℕ → Bool
-filledGood n l s o i = allZero l (o + i * n) ((8 - i) * n) || (differs (otherRow n l) (λ j. o + j * n) i && rowGood n l s (o + i * n))
+filledGood n l s o i = allZero l (o + i * n) ((8 - i) * n) || placeFilled n l s o i
 
 -- ---- a relay, and all rows of a world
 

@@ -4,7 +4,7 @@ ghost use mathlib.Core.Bool.{not};
 ghost use Prim.Native.Nat.{_+_, _*_, _≤_, _<_};
 ghost use lib.ListN.{length};
 ghost use Rattle.rows.specs.Tests.{all};
-ghost use Rattle.good.specs.Rows.{otherRow, differs, filledGood};
+ghost use Rattle.good.specs.Rows.{otherRow, differs, placeFilled, filledGood};
 
 // The rows at a and at b name the same view, or the same old and new one.
 fn same_name(w: &[u8], a: usize, b: usize, width: usize) -> bool
@@ -33,17 +33,15 @@ fn other_names(w: &[u8], at: usize, i: usize, width: usize) -> bool
     true
 }
 
+// The row at place i names another than those before it, and is good.
 fn good_place(w: &[u8], s: u8, at: usize, i: usize, width: usize) -> bool
     requires { ⌜ (at + 4736 ≤ length (now w)) × ((width ≤ 592) × (i < 8)) ⌝ }
-    ensures { λ r. ⌜ r ≡ filledGood width (now (w .entry)) s at i ⌝ }
+    ensures { λ r. ⌜ r ≡ placeFilled width (now (w .entry)) s at i ⌝ }
 {
-    let o = at + i * width;
-    if rows::is_zero(w, o, (8 - i) * width) {
-        return true;
-    }
     if !other_names(w, at, i, width) {
         return false;
     }
+    let o = at + i * width;
     if width == 592 {
         return super::generators::good_generator_row(w, s, o);
     }
@@ -55,6 +53,9 @@ pub(crate) fn good_table(w: &[u8], s: u8, at: usize, width: usize) -> bool
     ensures { λ r. ⌜ r ≡ all 8 (filledGood width (now (w .entry)) s at) ⌝ }
 {
     for i in 0..8usize {
+        if rows::is_zero(w, at + i * width, (8 - i) * width) {
+            return true;
+        }
         if !good_place(w, s, at, i, width) {
             return false;
         }

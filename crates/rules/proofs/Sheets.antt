@@ -13,7 +13,7 @@ use Rattle.rules.specs.Steps.{Step}
 use Rattle.rows.specs.Bytes.{bytesOf, be32, u32At}
 use Rattle.rows.proofs.Laws.{Holds, holds-same}
 use Rattle.rows.proofs.Numbers as Numbers
-use Rattle.rows.proofs.Numbers.{number-held, length-be32, holds-u32}
+use Rattle.rows.proofs.Numbers.{length-bytesOf, number-held, holds-u32}
 use Rattle.rules.specs.Sheets.{stepIn, stepBytes, stepsIn, allZerosIn, stepsBytes, sheet, marked, stepsOf, badSheet, sheetIn, sheetBytes}
 
 -- a step that a sheet can hold; a list of them
@@ -84,7 +84,7 @@ every-byte l h = record { each = go l h }
 value-held : (k i x y a b c d : ℕ) (l : List ℕ) → let t = k ∷ i ∷ x ∷ y ∷ a ∷ b ∷ c ∷ d ∷ l in Bytes t → be32 (u32At t 4) ≡ a ∷ b ∷ c ∷ d ∷ []
 value-held k i x y a b c d l h =
     let t : List ℕ = k ∷ i ∷ x ∷ y ∷ a ∷ b ∷ c ∷ d ∷ l in
-    holds-same t (be32 (u32At t 4)) (a ∷ b ∷ c ∷ d ∷ []) 4 (length-be32 (u32At t 4)) (number-held t 4 (every-byte t h) 4 (omega arith))
+    holds-same t (be32 (u32At t 4)) (a ∷ b ∷ c ∷ d ∷ []) 4 (length-bytesOf 4 (u32At t 4)) (number-held t 4 (every-byte t h) 4 (omega arith))
     (record { pre = k ∷ i ∷ x ∷ y ∷ []; post = l; long = refl; whole = refl })
 
 steps-held : (n : ℕ) (l : List ℕ) → Bytes l → length l ≡ 8 * n → allZerosIn n l ≡ true → stepsBytes (stepsIn n l) ≡ l
