@@ -12,7 +12,15 @@ unfolding generatorOf generatorAt notesAt
 returns c =
     let start = c .before .before .before .before .before .before in
     let a = start .before .before .args in
-    cc (generator-alike (alike-end (a .s .now) (a .at) _ (start .inside .ensures)))
+    rw (
+      c .before .before .before .before .before .read-u16 .ensures,
+      c .before .before .before .before .sequence-at .ensures,
+      c .before .before .before .sequence-at2 .ensures,
+      c .before .before .sequence-at3 .ensures,
+      c .before .notes-at .ensures,
+      c .notes-at2 .ensures,
+    )
+    (generator-alike (alike-end (a .s .now) (a .at) _ (start .inside .ensures)))
 
 pub generator-at-spec : {M : Type 1} → statement M
 generator-at-spec =
