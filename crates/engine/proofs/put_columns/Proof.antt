@@ -12,7 +12,7 @@ returns : tie.Need-returns
 unfolding fieldsOf columnsOf toldBytes cat
 returns c =
     let columns = c .before .before .before .before .before .before .struct-known4 .given in
-    c .before .before .put-fields .ensures ∙ rw (byte-number (columns .0), byte-number (columns .1 .0), byte-number (columns .1 .1 .1 .0))
+    c .before .before .put-fields .ensures ∙ simp (byte-number (columns .0), byte-number (columns .1 .0), byte-number (columns .1 .1 .1 .0))
 
 pub put-columns-spec : {M : Type 1} → statement M
 put-columns-spec =
