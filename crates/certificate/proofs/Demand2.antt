@@ -7,6 +7,7 @@ use Prim.Native.Nat.{ℕ, suc, _+_, _≤_, _<_}
 use native.Mathlib.Omega.{arith}
 use lib.ListN.{length, getD, drop, replicate, length-replicate}
 use lib.Seq.{take-all, drop-append-seam}
+use Rattle.rows.specs.Bytes.{numberAt}
 use Rattle.rules.specs.State.{Place, free, World, start}
 use Rattle.rules.specs.State as state
 use Rattle.rules.specs.Sending.{waitingIn}
@@ -249,7 +250,7 @@ module _ (sent delivered dropped waiting : ℕ) (small : Small sent delivered dr
       rehearse-tied 1 ks (omega arith) (omega arith) few b one out (length-image (start 1)) is (omega (arith, long)) sent delivered dropped waiting (drop (length made) out) small (sym whole ∙ p out) .0
 
   pub rehearse-invented : ¬ ((b world out : List ℕ) (mask : ℕ) (ks : List Step) → sheetIn b ≡ sheet mask ks → laid out 0 (withTotals mask ks sent delivered dropped waiting) ≡ recordLeft b world out)
-  unfolding recorded sheetIn stepsIn allZerosIn
+  unfolding recorded sheetIn stepsIn allZerosIn numberAt
   rehearse-invented p =
       let none : sent ≡ 0 = laid-counted blank [] refl (omega arith) (λ out. p blank one out 1 [] refl) in
       let some : sent ≡ 1 = laid-counted written (write ∷ []) refl (omega arith) (λ out. p written one out 1 (write ∷ []) refl) in

@@ -6,7 +6,7 @@ use Prim.Native.Nat.{ℕ, _+_, _-_, _*_, _/_, _%_}
 use lib.Dec.{leb, ltb}
 use lib.ListN.{length, getD, take, drop, replicate}
 use denote.Ref.{RefT, now}
-use Rattle.rows.specs.Bytes.{run, zeros}
+use Rattle.rows.specs.Bytes.{numberAt, run, zeros}
 use Rattle.rules.specs.Sets.{if_then_else_}
 use Rattle.rules.specs.Sheets.{mark, marked, stepIn, stepsOf, allZerosIn, stepsBytes, sheetBytes, written}
 use Rattle.rules.specs.Runs.{digits, decimal, line, start-word, bad-word}
@@ -43,15 +43,15 @@ abbrev steps : List ℕ
 steps = 5 ∷ 0 ∷ 0 ∷ 0 ∷ 0 ∷ 0 ∷ 0 ∷ 1 ∷ 5 ∷ 0 ∷ 0 ∷ 0 ∷ 0 ∷ 0 ∷ 0 ∷ 2 ∷ []
 
 pub sheet-step-at-the-front-always : ¬ ((b : List ℕ) (at : ℕ) → stepAt b 0 ≡ stepAt b at)
-unfolding stepAt
+unfolding stepAt numberAt
 sheet-step-at-the-front-always p = differ found (p steps 8) tt
 
 pub sheet-step-at-low-byte-first : ¬ ((b : List ℕ) (at : ℕ) → (if leb (at + 8) (length b) then At (record { kind = getD b at 0; id = getD b (at + 1) 0; value = ((getD b (at + 7) 0 * 256 + getD b (at + 6) 0) * 256 + getD b (at + 5) 0) * 256 + getD b (at + 4) 0 }) else End) ≡ stepAt b at)
-unfolding stepAt
+unfolding stepAt numberAt
 sheet-step-at-low-byte-first p = differ found (p steps 0) tt
 
 pub sheet-step-at-past-the-end : ¬ ((b : List ℕ) (at : ℕ) → At (stepIn (drop at b)) ≡ stepAt b at)
-unfolding stepAt
+unfolding stepAt numberAt
 sheet-step-at-past-the-end p = differ found (p steps 16) tt
 
 pub sheet-after-stays : ¬ ((b : List ℕ) (at : ℕ) → at ≡ afterOf b at)
@@ -92,11 +92,11 @@ pub sheet-new-past-the-first-step : ¬ ((sheet : RefT (List ℕ)) → (reader sh
 sheet-new-past-the-first-step p = differ itself (p lent .1) tt
 
 pub sheet-next-the-first-again : ¬ ((r : Reader) → stepAt (now (r .sheet)) 0 ≡ stepAt (now (r .sheet)) (r .at))
-unfolding stepAt
+unfolding stepAt numberAt
 sheet-next-the-first-again p = differ found (p (reader lent 8)) tt
 
 pub sheet-next-the-one-after : ¬ ((r : Reader) → stepAt (now (r .sheet)) (r .at + 8) ≡ stepAt (now (r .sheet)) (r .at))
-unfolding stepAt
+unfolding stepAt numberAt
 sheet-next-the-one-after p = differ found (p (reader lent 0)) tt
 
 pub sheet-moved-not-at-all : ¬ ((r : Reader) → (r .sheet ≡ r .sheet) × (r .at ≡ afterOf (now (r .sheet)) (r .at)))
@@ -108,7 +108,7 @@ unfolding afterOf
 sheet-moved-past-the-end p = differ itself (p (reader lent 16) .1) tt
 
 pub sheet-read-at-the-front-always : ¬ ((sheet : List ℕ) (at : ℕ) → takenAt sheet 0 ≡ takenAt sheet at)
-unfolding stepAt afterOf takenAt
+unfolding stepAt afterOf takenAt numberAt
 sheet-read-at-the-front-always p = differ (λ (t : Taken). found (t .found)) (p steps 8) tt
 
 pub sheet-read-at-without-moving : ¬ ((sheet : List ℕ) (at : ℕ) → record { found = stepAt sheet at; at = at } ≡ takenAt sheet at)

@@ -5,7 +5,7 @@ use mathlib.Core.List.{List, [], _∷_, _++_}
 use Prim.Native.Nat.{ℕ}
 use lib.Dec.{eqb}
 use lib.ListN.{length, getD, drop, replicate}
-use Rattle.rows.specs.Bytes.{splice, placed, bytesOf, cat}
+use Rattle.rows.specs.Bytes.{numberAt, splice, placed, bytesOf, cat}
 use Rattle.rules.specs.Sets.{if_then_else_}
 use Rattle.rules.specs.State.{World, noRelay, start}
 use Rattle.rules.specs.Sending.{waitingIn}
@@ -132,11 +132,11 @@ abbrev numbered : ℕ → List Step → List ℕ
 numbered mask ks = startOf mask ++ (stepLines 0 (outcomes (start mask) ks) ++ endOf 1 0 0 1)
 
 pub world-rehearse-printed-numbers-from-0 : ¬ ((sheet world out : List ℕ) → laid out 0 (numbered (getD sheet 5 0) (stepsIn (stepsOf sheet) (drop 6 sheet))) ≡ recordLeft sheet world out)
-unfolding laid sheetIn stepsIn allZerosIn recorded rehearsed
+unfolding laid sheetIn stepsIn allZerosIn recorded rehearsed numberAt
 world-rehearse-printed-numbers-from-0 p = differ (entry 8) (p written one (replicate 40 0) ∙ printed-there written (replicate 40 0)) tt
 
 pub world-rehearse-printed-invented-totals : ¬ ((sheet world out : List ℕ) → laid out 0 (withTotals (getD sheet 5 0) (stepsIn (stepsOf sheet) (drop 6 sheet)) 0 0 0 0) ≡ recordLeft sheet world out)
-unfolding laid sheetIn stepsIn allZerosIn recorded rehearsed
+unfolding laid sheetIn stepsIn allZerosIn recorded rehearsed numberAt
 world-rehearse-printed-invented-totals p = differ (entry 26) (p written one (replicate 40 0) ∙ printed-there written (replicate 40 0)) tt
 
 -- ---- engine
