@@ -1,12 +1,12 @@
 -- Conditions that all hold, and tests over lists. Assumes nothing.
 use mathlib.Core.Path.{_≡_, refl}
-use mathlib.Core.Bool.{Bool, true, and-eq-true-iff}
+use mathlib.Core.Bool.{Bool, true, false, and-eq-true-iff}
 use mathlib.Core.List.{List, [], _∷_, _++_}
 use Prim.Native.Nat.{ℕ, zero, suc, _+_}
 use native.Mathlib.Omega.{arith}
 use lib.ListN.{getD, set}
 use Rattle.views.proofs.Truth.{cases}
-use Rattle.rules.specs.Sets.{allHold, all, those}
+use Rattle.rules.specs.Sets.{if_then_else_, allHold, all, those}
 use Rattle.rules.specs.WellFormed.{allFrom, distinct}
 
 abbrev pub AllTrue : List Bool → Type 0
@@ -110,3 +110,25 @@ module _ {A : Type 0} (differ : A → A → Bool) where
       let k = distinct-parts x xs d in
       let rest : distinct differ (those g xs) ≡ true = distinct-those g xs (k .1) in
       cases (λ (l : List A). distinct differ l ≡ true) (g x) (λ _. distinct-more x (those g xs) (all-those (differ x) g xs (k .0)) rest) (λ _. rest)
+
+-- ---- one put back: in the place of the first that is the same, or at the end
+
+module _ {A : Type 0} (same : A → A → Bool) (put : A → List A → List A)
+    (put-none : (x : A) → put x [] ≡ x ∷ []) (put-some : (x y : A) (ys : List A) → put x (y ∷ ys) ≡ (if same y x then x ∷ ys else y ∷ put x ys)) where
+  pub all-put : (f : A → Bool) (x : A) → f x ≡ true → (ys : List A) → all f ys ≡ true → all f (put x ys) ≡ true
+  all-put f x p [] a = rw (put-none x) (all-more f x [] p a)
+  all-put f x p (y ∷ ys) a =
+      let k = all-parts f y ys a in
+      let r : all f (put x ys) ≡ true = all-put f x p ys (k .1) in
+      rw (put-some x y ys) (cases (λ (l : List A). all f l ≡ true) (same y x) (λ _. all-more f x ys p (k .1)) (λ _. all-more f y (put x ys) (k .0) r))
+
+  pub distinct-put : (differ : A → A → Bool) → ((x y : A) → same y x ≡ false → differ y x ≡ true)
+      → ((x y : A) (us : List A) → same y x ≡ true → all (differ y) us ≡ true → all (differ x) us ≡ true)
+      → (x : A) (ys : List A) → distinct differ ys ≡ true → distinct differ (put x ys) ≡ true
+  distinct-put differ apart alike x [] d = rw (put-none x) (distinct-more differ x [] (all-none (differ x)) d)
+  distinct-put differ apart alike x (y ∷ ys) d =
+      let k = distinct-parts differ y ys d in
+      let r : distinct differ (put x ys) ≡ true = distinct-put differ apart alike x ys (k .1) in
+      rw (put-some x y ys)
+      (cases (λ (l : List A). distinct differ l ≡ true) (same y x) (λ e. distinct-more differ x ys (alike x y ys e (k .0)) (k .1))
+      (λ e. distinct-more differ y (put x ys) (all-put (differ y) x (apart x y e) ys (k .0)) r))

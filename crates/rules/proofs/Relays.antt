@@ -1,19 +1,18 @@
 -- The rules at a relay keep it good, and send well. Assumes nothing.
-use mathlib.Core.Path.{_≡_, ap}
+use mathlib.Core.Path.{_≡_, refl, ap}
 use mathlib.Core.Bool.{Bool, true, false, not}
-use mathlib.Core.List.{List, [], _∷_}
+use mathlib.Core.List.{List}
 use Prim.Native.Nat.{ℕ, _<_}
 use lib.Dec.{eqb, leb}
 use lib.ListN.{length}
 use borrow.Author.Tests.{ltb-true, eqb-true, lt-ltb}
-use Rattle.views.proofs.Truth.{cases}
 use Rattle.rules.specs.Sets.{_&&_, member, above, none, all}
 use Rattle.rules.specs.Messages.{Sending, Event, Refusal, Answer, refused, does}
 use Rattle.rules.specs.State.{Generator, Transfer, Relay, withGenerators}
 use Rattle.rules.specs.Generators.{generatorFor, putGenerator, Turn, proposes, proposalHeard, convergedHeard}
 use Rattle.rules.specs.Relays.{atGenerator}
 use Rattle.rules.specs.WellFormed.{isPair, implies, sameBool, distinct, goodGenerator, goodTransfer, otherView, otherMove, goodGenerators, goodTransfers, goodRelay}
-use Rattle.rules.proofs.Hold.{hold-facts, hold-tests, all-none, all-parts, all-more, distinct-parts, distinct-more}
+use Rattle.rules.proofs.Hold.{hold-facts, hold-tests, all-put, distinct-put}
 use Rattle.rules.proofs.Sends.{SendsWell}
 use Rattle.rules.proofs.Generators.{Gen, gen-tests, GoodTurn, looked-up, view-of, propose-good, proposal-good, converged-good}
 
@@ -104,36 +103,25 @@ pub does-well : (s : ℕ) (r : Relay) (ss : List Sending) (e : Event) → Rel s 
 unfolding GoodAnswer
 does-well s r ss e h k = (h, k)
 
--- ---- tables: a generator put back
+-- ---- a generator put back
 
-module _ (f : Generator → Bool) (g : Generator) (p : f g ≡ true) where
-  all-put : (hs : List Generator) → all f hs ≡ true → all f (putGenerator g hs) ≡ true
-  unfolding putGenerator
-  all-put [] a = all-more f g [] p a
-  all-put (h ∷ hs) a =
-      let k = all-parts f h hs a in
-      let r : all f (putGenerator g hs) ≡ true = all-put hs (k .1) in
-      cases (λ (l : List Generator). all f l ≡ true) (eqb (h .view) (g .view)) (λ _. all-more f g hs p (k .1)) (λ _. all-more f h (putGenerator g hs) (k .0) r)
+sameView : Generator → Generator → Bool
+sameView h g = eqb (h .view) (g .view)
 
-other-same : (g h : Generator) (hs : List Generator) → h .view ≡ g .view → all (otherView h) hs ≡ true → all (otherView g) hs ≡ true
-other-same g h hs e a = rw e at a
+good-put : (s : ℕ) (g : Generator) → goodGenerator s g ≡ true → (hs : List Generator) → all (goodGenerator s) hs ≡ true → all (goodGenerator s) (putGenerator g hs) ≡ true
+unfolding putGenerator sameView
+good-put s = all-put sameView putGenerator (λ g. refl) (λ g h hs. refl) (goodGenerator s)
 
-distinct-put : (g : Generator) (hs : List Generator) → distinct otherView hs ≡ true → distinct otherView (putGenerator g hs) ≡ true
-unfolding putGenerator
-distinct-put g [] d = distinct-more otherView g [] (all-none (otherView g)) d
-distinct-put g (h ∷ hs) d =
-    let k = distinct-parts otherView h hs d in
-    let r : distinct otherView (putGenerator g hs) ≡ true = distinct-put g hs (k .1) in
-    cases (λ (l : List Generator). distinct otherView l ≡ true) (eqb (h .view) (g .view))
-    (λ e. distinct-more otherView g hs (other-same g h hs (eqb-true _ _ e) (k .0)) (k .1))
-    (λ e. distinct-more otherView h (putGenerator g hs) (all-put (otherView h) g (ap not e) hs (k .0)) r)
+different-put : (g : Generator) (hs : List Generator) → distinct otherView hs ≡ true → distinct otherView (putGenerator g hs) ≡ true
+unfolding putGenerator sameView
+different-put = distinct-put sameView putGenerator (λ g. refl) (λ g h hs. refl) otherView (λ g h e. ap not e) (λ g h hs e a. rw (eqb-true (h .view) (g .view) e) at a)
 
 pub at-generator : (s v : ℕ) (r : Relay) (t : Turn) → Rel s r → GoodTurn s v t → GoodAnswer s (atGenerator r t)
 unfolding atGenerator withGenerators
 at-generator s v r t h k =
     does-well s _ _ _
     (rel-tables h (putGenerator (t .next) (r .generators)) (r .transfers)
-    (all-put (goodGenerator s) (t .next) (gen-tests s (t .next) (k .next)) (r .generators) (h .generators)) (distinct-put (t .next) (r .generators) (h .different))
+    (good-put s (t .next) (gen-tests s (t .next) (k .next)) (r .generators) (h .generators)) (different-put (t .next) (r .generators) (h .different))
     (h .transfers) (h .apart))
     (k .sendings)
 

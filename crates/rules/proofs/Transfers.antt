@@ -19,7 +19,7 @@ use Rattle.rules.specs.State.{Transfer, Relay, withActive, withTransfers
 use Rattle.rules.specs.Relays.{freshTransfer, isFor, transferFor, putTransfer, keeps, gathers, passes, moved, onward, enters, tested, early, stopped, handed, takesInstall, sentFirst, installHeard, stateHeard}
 use Rattle.rules.specs.WellFormed.{isPair, distinct, goodMove, goodPlan, goodTransfer, otherMove, goodBody}
 use Rattle.rules.specs.Lent.{kept}
-use Rattle.rules.proofs.Hold.{hold-facts, hold-tests, all-none, all-parts, all-more, all-those, distinct-parts, distinct-more, distinct-those}
+use Rattle.rules.proofs.Hold.{hold-facts, hold-tests, all-parts, all-those, distinct-those, all-put, distinct-put}
 use Rattle.rules.proofs.Sends.{SendWell, SendsWell, sends-none, sends-one, sends-append, one-more}
 use Rattle.rules.proofs.Relays.{Rel, rel-tables, GoodAnswer, refuses-well, does-well, propose-kept}
 
@@ -73,43 +73,28 @@ module _ (s o w : ℕ) (m : member w s ≡ true) (mv : goodMove o w ≡ true) wh
 pub for-pair : (o w : ℕ) (t : Transfer) → isFor o w t ≡ true → (t .old ≡ o) × (t .new ≡ w)
 for-pair o w t e = let k = and-eq-true-iff (eqb (t .old) o) (eqb (t .new) w) .0 e in (eqb-true _ _ (k .0), eqb-true _ _ (k .1))
 
-pub found-old : (o w : ℕ) (ts : List Transfer) → transferFor o w ts .old ≡ o
+pair-found : (o w : ℕ) (ts : List Transfer) → (transferFor o w ts .old ≡ o) × (transferFor o w ts .new ≡ w)
 unfolding transferFor freshTransfer
-found-old o w [] = refl
-found-old o w (t ∷ ts) =
-    let r : transferFor o w ts .old ≡ o = found-old o w ts in
-    cases (λ (u : Transfer). u .old ≡ o) (isFor o w t) (λ e. for-pair o w t e .0) (λ _. r)
+pair-found o w [] = (refl, refl)
+pair-found o w (t ∷ ts) = let r = pair-found o w ts in cases (λ (u : Transfer). (u .old ≡ o) × (u .new ≡ w)) (isFor o w t) (λ e. for-pair o w t e) (λ _. r)
+
+pub found-old : (o w : ℕ) (ts : List Transfer) → transferFor o w ts .old ≡ o
+found-old o w ts = pair-found o w ts .0
 
 pub found-new : (o w : ℕ) (ts : List Transfer) → transferFor o w ts .new ≡ w
-unfolding transferFor freshTransfer
-found-new o w [] = refl
-found-new o w (t ∷ ts) =
-    let r : transferFor o w ts .new ≡ w = found-new o w ts in
-    cases (λ (u : Transfer). u .new ≡ w) (isFor o w t) (λ e. for-pair o w t e .1) (λ _. r)
+found-new o w ts = pair-found o w ts .1
 
-module _ (f : Transfer → Bool) (t : Transfer) (p : f t ≡ true) where
-  all-put : (us : List Transfer) → all f us ≡ true → all f (putTransfer t us) ≡ true
-  unfolding putTransfer
-  all-put [] a = all-more f t [] p a
-  all-put (u ∷ us) a =
-      let k = all-parts f u us a in
-      let r : all f (putTransfer t us) ≡ true = all-put us (k .1) in
-      cases (λ (l : List Transfer). all f l ≡ true) (isFor (t .old) (t .new) u) (λ _. all-more f t us p (k .1)) (λ _. all-more f u (putTransfer t us) (k .0) r)
+sameMove : Transfer → Transfer → Bool
+sameMove u t = isFor (t .old) (t .new) u
 
-other-same : (t u : Transfer) (us : List Transfer) → u .old ≡ t .old → u .new ≡ t .new → all (otherMove u) us ≡ true → all (otherMove t) us ≡ true
-other-same t u us e k a = rw (e, k) at a
+good-put : (s : ℕ) (t : Transfer) → goodTransfer s t ≡ true → (us : List Transfer) → all (goodTransfer s) us ≡ true → all (goodTransfer s) (putTransfer t us) ≡ true
+unfolding putTransfer sameMove
+good-put s = all-put sameMove putTransfer (λ t. refl) (λ t u us. refl) (goodTransfer s)
 
-distinct-put : (t : Transfer) (us : List Transfer) → distinct otherMove us ≡ true → distinct otherMove (putTransfer t us) ≡ true
-unfolding putTransfer
-distinct-put t [] d = distinct-more otherMove t [] (all-none (otherMove t)) d
-distinct-put t (u ∷ us) d =
-    let k = distinct-parts otherMove u us d in
-    let r : distinct otherMove (putTransfer t us) ≡ true = distinct-put t us (k .1) in
-    cases (λ (l : List Transfer). distinct otherMove l ≡ true) (isFor (t .old) (t .new) u)
-    (λ e.
-    let same = for-pair (t .old) (t .new) u e in
-    distinct-more otherMove t us (other-same t u us (same .0) (same .1) (k .0)) (k .1))
-    (λ e. distinct-more otherMove u (putTransfer t us) (all-put (otherMove u) t (ap not e) us (k .0)) r)
+apart-put : (t : Transfer) (us : List Transfer) → distinct otherMove us ≡ true → distinct otherMove (putTransfer t us) ≡ true
+unfolding putTransfer sameMove
+apart-put = distinct-put sameMove putTransfer (λ t. refl) (λ t u us. refl) otherMove (λ t u e. ap not e)
+    (λ t u us e a. let same = for-pair (t .old) (t .new) u e in rw (same .0, same .1) at a)
 
 -- ---- the entry test
 
@@ -153,7 +138,7 @@ tested-good s r h t k =
     kept : Rel s (withTransfers r (putTransfer t (r .transfers)))
     kept = unfold withTransfers in
         rel-tables h (r .generators) (putTransfer t (r .transfers)) (h .generators) (h .different)
-        (all-put (goodTransfer s) t (tra-tests s t k) (r .transfers) (h .transfers)) (distinct-put t (r .transfers) (h .apart))
+        (good-put s t (tra-tests s t k) (r .transfers) (h .transfers)) (apart-put t (r .transfers) (h .apart))
 
 -- ---- State
 
