@@ -12,7 +12,7 @@ use Rattle.rules.specs.Stamps.{Pair}
 use Rattle.rules.specs.History.{Operation, Told, toldAt, nobody, operation}
 use Rattle.rules.specs.Demand3.{_∈_}
 use Rattle.safety.proofs.Numbers.{num, Small, pairOf, pair-back}
-use Rattle.safety.proofs.Log.{Task, Op, Entry, Log, _∋_, begin, settle, finish, Active, active-start, Sound}
+use Rattle.safety.proofs.Log.{Task, Op, Log, _∋_, begin, settle, finish, Active, active-start, Sound}
 use Rattle.safety.proofs.Past.{now, back, past-has, justified, sound-past, why}
 use Rattle.safety.proofs.Entries.{older, past-kind}
 use Rattle.safety.proofs.Operations.{settle-once}
@@ -60,11 +60,11 @@ book-none start = record {
 
 old-begin : {l m : Log} {d t : ℕ} {a : Task} → Since Plain l m → m ∋ begin d t a → l ∋ begin d t a
 old-begin stay h = h
-old-begin (add {e = e} p s) h = old-begin s (older (λ c. subst (λ (x : Entry). Plain x) (sym c) p) h)
+old-begin (add p s) h = old-begin s (older (p .0 _ _ _) h)
 
 old-finish : {l m : Log} {o : Op} → Since Plain l m → m ∋ finish o → l ∋ finish o
 old-finish stay h = h
-old-finish (add {e = e} p s) h = old-finish s (older (λ c. subst (λ (x : Entry). Plain x) (sym c) p) h)
+old-finish (add p s) h = old-finish s (older (p .1 _) h)
 
 pub finish-begun : {start : ℕ} {l : Log} {o : Op} → Sound start l → l ∋ finish o → (l ∋ settle o) × (l ∋ begin (o .desk) (o .try) (o .task))
 finish-begun S h =

@@ -79,29 +79,23 @@ done-more h = (h .0, List·Memᴰ·tail (h .1), h .2, h .3)
 
 -- ---- an entry that neither begins nor ends an operation
 
-not-plain-begin : {e : Entry} {d t : ℕ} {a : Task} → Plain e → begin d t a ≡ e → ⊥
-not-plain-begin p c = subst (λ (x : Entry). Plain x) (sym c) p
-
-not-plain-finish : {e : Entry} {o : Op} → Plain e → finish o ≡ e → ⊥
-not-plain-finish p c = subst (λ (x : Entry). Plain x) (sym c) p
-
 module _ {i : ℕ} {B E : Times} where
   pub dates-plain : {l m : Log} → Since Plain l m → Dates l i B E → Dates m i B E
   dates-plain stay D = D
   dates-plain (add {e = e} {m = m} p s) D = go (dates-plain s D)
     where
       old-begin : {d t : ℕ} {a : Task} → (e ∷ m) ∋ begin d t a → m ∋ begin d t a
-      old-begin h = older (not-plain-begin {e = e} p) h
+      old-begin h = older (p .0 _ _ _) h
 
       old-finish : {o : Op} → (e ∷ m) ∋ finish o → m ∋ finish o
-      old-finish h = older (not-plain-finish {e = e} p) h
+      old-finish h = older (p .1 _) h
 
       go : Dates m i B E → Dates (e ∷ m) i B E
       go F = record {
         began = λ d t a h. F .began d t a (old-begin h);
         ended = λ o h. F .ended o (old-finish h);
         really = λ d t h. done-more (F .really d t h);
-        timely = λ q o h x. ⊎-elim (λ c. absurd (not-plain-begin {e = e} p (c .0))) (λ r. F .timely r o (old-finish h) x) (past-cases q);
+        timely = λ q o h x. ⊎-elim (λ c. absurd (p .0 _ _ _ (c .0))) (λ r. F .timely r o (old-finish h) x) (past-cases q);
         apart = λ d t u a b h k. F .apart d t u a b (old-begin h) (old-begin k);
       }
 

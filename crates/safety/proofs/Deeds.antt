@@ -1,6 +1,6 @@
 -- What one step of a world does to the log: its entries are those of one relay or of one desk; it may open a view, begin an operation or end one,
 -- and the history (rules/specs/History.antt) says the same of it. Assumes nothing.
-use mathlib.Core.Path.{_≡_, refl, _∙_}
+use mathlib.Core.Path.{_≡_, refl, ap, _∙_}
 use mathlib.Core.Bool.{_&&_}
 use mathlib.Core.List.{List, [], _∷_}
 use Prim.Native.Nat.{ℕ, _+_, _<_}
@@ -21,11 +21,11 @@ use Rattle.rules.specs.History.{Told, begin as beginning, endedBy, operation, o
 use Rattle.safety.proofs.Lists.{All, all-none, all-more, all-append, all-map, all-image, those-pass}
 use Rattle.safety.proofs.Numbers.{num, Small}
 use Rattle.safety.proofs.Log.{Task, Op, Log, begin, finish, Active, Sound}
-use Rattle.safety.proofs.Growth.{Since, stay, add, since-join, since-map, ByRelay, ByDesk, Plain, relay-plain}
+use Rattle.safety.proofs.Growth.{Since, stay, add, since-join, since-map, of-desk, ByRelay, ByDesk, Plain, relay-plain}
 use Rattle.safety.proofs.Ties.{RelayTied, DeskTied, Backed, SendingBacked, PlaceBacked, WorldTied}
 use Rattle.safety.proofs.Grown.{places-since, relay-by-relay, relay-by-desk, desk-by-relay, desk-by-desk}
 use Rattle.safety.proofs.RelaySteps.{Tells, RelayDone}
-use Rattle.safety.proofs.DeskSteps.{asking-by, asking-plain, Says, says-read, says-write, Ending, goes-on, ends, DeskDone}
+use Rattle.safety.proofs.DeskSteps.{Says, says-read, says-write, Ending, goes-on, ends, DeskDone}
 
 -- ---- in the words of the history, step by step
 
@@ -136,7 +136,7 @@ module _ {start : ℕ} {l : Log} (a : Act) (w : World) (h : WorldTied start l w)
 
   ending-by : {n : ℕ} {k g : Log} {e : Event} → Ending n k e g → Since (ByDesk n) k g
   ending-by goes-on = stay
-  ending-by (ends o z d x y u) = add {e = finish o} d stay
+  ending-by (ends o z d x y u) = add (ap of-desk d) stay
 
   pub desk-does : (c n : ℕ) → n < 4 → Still a → (x : Answer Desk) → DeskDone start l n x → Moves start l a (deskDoes w c n x)
   unfolding deskDoes
@@ -146,7 +146,7 @@ module _ {start : ℕ} {l : Log} (a : Act) (w : World) (h : WorldTied start l w)
       (λ _. record {
         log = t .log;
         sound = t .sound;
-        tied = with-desk w h n d ss i (since-join (since-map (asking-by n) (t .quiet)) (ending-by (t .ending))) (t .tied) (t .sent);
+        tied = with-desk w h n d ss i (since-join (since-map (λ e b. b .0) (t .quiet)) (ending-by (t .ending))) (t .tied) (t .sent);
         deed = deed (t .ending);
       }) (λ _. tt)
     where
@@ -159,5 +159,5 @@ module _ {start : ℕ} {l : Log} (a : Act) (w : World) (h : WorldTied start l w)
       told-open says-write = refl
 
       deed : {e : Event} {g : Log} → Ending n (t .mid) e g → Deed start l a (reports e n) g
-      deed goes-on = quiet (since-map (asking-plain n) (t .quiet)) f (λ j ts. refl) refl
-      deed (ends {p = p} o z b x y u) = ended o p (since-map (asking-plain n) (t .quiet)) f (λ j ts. rw b (told-end z j ts)) (told-open z) x y u
+      deed goes-on = quiet (since-map (λ e b. b .1) (t .quiet)) f (λ j ts. refl) refl
+      deed (ends {p = p} o z b x y u) = ended o p (since-map (λ e b. b .1) (t .quiet)) f (λ j ts. rw b (told-end z j ts)) (told-open z) x y u

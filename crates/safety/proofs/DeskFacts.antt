@@ -1,12 +1,12 @@
 -- What the log must say of a desk: each kind of entry keeps it and is justified by it. Assumes nothing.
-use mathlib.Core.Path.{_≡_, refl, sym, subst, ap}
+use mathlib.Core.Path.{_≡_, refl, sym, subst, ap, _∙_}
 use mathlib.Core.Logic.{_⊎_, inl, inr}
 use mathlib.Core.List.{[], _∷_, List·Memᴰ·head, List·Memᴰ·tail, List·Memᴰ·not-nil, List·Memᴰ·cases-cons}
 use Prim.Native.Nat.{ℕ, suc, _≤_, _<_}
 use native.Mathlib.Omega.{arith}
 use Rattle.safety.proofs.Quorums.{Most}
 use Rattle.safety.proofs.Log.{Task, Op, Ask, get, put, Entry, tag, Log, _∋_, begin, ask, reply, settle, finish, Begin, sends-get, sends-put, Asks, Result, Settle, Ends, put-down, Finish, Sound}
-use Rattle.safety.proofs.Growth.{ByDesk}
+use Rattle.safety.proofs.Growth.{of-desk, doer, ByDesk}
 use Rattle.safety.proofs.Past.{back, past-has, why}
 use Rattle.safety.proofs.Entries.{older, past-kind}
 
@@ -260,18 +260,18 @@ module _ {l : Log} {d n u : ℕ} {o : Op} (k : DeskFacts l d n u (putting o)) wh
 module _ {l : Log} {d n u : ℕ} {p : Stage} (k : DeskFacts l d n u p) where
   pub desk-other : {e : Entry} → (ByDesk d e → ⊥) → DeskFacts (e ∷ l) d n u p
   desk-other {e} f = record {
-    tries = λ m h. tried-cases h (λ a c. absurd (other c refl)) (λ b v x c. absurd (other c refl)) (λ o c b q. absurd (other c b)) (k .tries m);
+    tries = λ m h. tried-cases h (λ a c. absurd (other c refl)) (λ b v x c. absurd (other c refl)) (λ o c b q. absurd (other c (ap of-desk b))) (k .tries m);
     done = λ m a h. done-later (k .done m a (older (λ c. other c refl) h));
     doing = go (k .doing);
   }
     where
       other : {g : Entry} → g ≡ e → ByDesk d g → ⊥
-      other c h = f (subst (λ (x : Entry). ByDesk d x) c h)
+      other c h = f (ap doer (sym c) ∙ h)
 
       go : {p : Stage} → Doing l d n u p → Doing (e ∷ l) d n u p
       go rests = rests
-      go (asks b q g) = asks (List·Memᴰ·tail b) (List·Memᴰ·tail q) (λ o h i j. g o (older (λ c. other c i) h) i j)
-      go (puts i b s q g) = puts i (List·Memᴰ·tail b) (List·Memᴰ·tail s) (List·Memᴰ·tail q) (λ h. g (older (λ c. other c i) h))
+      go (asks b q g) = asks (List·Memᴰ·tail b) (List·Memᴰ·tail q) (λ o h i j. g o (older (λ c. other c (ap of-desk i)) h) i j)
+      go (puts i b s q g) = puts i (List·Memᴰ·tail b) (List·Memᴰ·tail s) (List·Memᴰ·tail q) (λ h. g (older (λ c. other c (ap of-desk i)) h))
 
 pub desk-starts : (d u : ℕ) → DeskFacts [] d 0 u resting
 desk-starts d u = record { tries = λ m h. absurd (go h); done = λ m a h. absurd (List·Memᴰ·not-nil h); doing = rests }

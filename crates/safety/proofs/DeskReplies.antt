@@ -2,7 +2,7 @@
 use mathlib.Core.Path.{_≡_, refl, sym, subst, ap, _∙_}
 use mathlib.Core.Logic.{_⊎_, inl, inr, ⊎-elim}
 use mathlib.Core.Bool.{Bool, true, false, not, _&&_, false≢true, and-eq-true-iff}
-use mathlib.Core.List.{[], _∷_, List·Memᴰ·head, List·Memᴰ·tail}
+use mathlib.Core.List.{[], _∷_, List·Memᴰ·tail}
 use Prim.Native.Nat.{ℕ, suc, _+_, _*_, _/_, _^_, _<_}
 use native.Mathlib.Omega.{arith}
 use lib.Dec.{eqb}
@@ -22,14 +22,14 @@ use Rattle.rules.specs.Desks.{ended, isIdle, isFirst, isSecond, full, current, 
 use Rattle.safety.proofs.Lists.{all-none}
 use Rattle.safety.proofs.Quorums.{Most}
 use Rattle.safety.proofs.Numbers.{num, Small, Greater, takes, stays, greatest-num, greatest-small, same-num}
-use Rattle.safety.proofs.Log.{reading, writing, Op, Ask, get, put, Log, _∋_, ask, reply, settle, finish, agreed, Sound}
+use Rattle.safety.proofs.Log.{reading, writing, Op, Ask, get, put, tag, Log, _∋_, ask, reply, settle, finish, agreed, Sound}
 use Rattle.safety.proofs.Past.{sound-more}
 use Rattle.safety.proofs.Operations.{reply-view}
 use Rattle.safety.proofs.Growth.{stay, add}
 use Rattle.safety.proofs.DeskFacts.{DeskFacts, Doing, asks as asks-now, puts as puts-now, Stage, resting, asking, putting, settle-justified, put-justified, desk-puts, at-once-justified, desk-rests-at-once, finish-justified, desk-rests}
 use Rattle.safety.proofs.Notes.{Notes, note-greater, note-other, Replies, read-justified, write-justified}
 use Rattle.safety.proofs.Ties.{Firsts, Acks, Phased, at-rest, at-read1, at-write1, at-read2, at-write2, DeskTied, Backed}
-use Rattle.safety.proofs.DeskSteps.{Says, DeskStep, DeskDone, ends, says-read, says-write, clear-acks, still, begins-done, view-done}
+use Rattle.safety.proofs.DeskSteps.{Asking, Says, DeskStep, DeskDone, ends, says-read, says-write, clear-acks, still, begins-done, view-done}
 
 -- ---- noting a reply
 
@@ -96,6 +96,9 @@ module _ {l : Log} {n : ℕ} (d : Desk) (from : ℕ) where
 
 -- ---- "At a quorum of replies: .."
 
+settles-on : {o : Op} → Asking (o .desk) (settle o)
+settles-on = (refl, (λ d t a c. omega (arith, ap tag c), λ o c. omega (arith, ap tag c)))
+
 module _ {start : ℕ} {l : Log} {n : ℕ} (S : Sound start l) (s : n < 4) (d : Desk) (q : reachesOf (d .view) (d .replied) ≡ true) where
   -- "read 1 ends with event 2 if all stamps agreed, else read 2 puts back the greatest"
   read1-done : {m : ℕ} → Firsts l n d → DeskFacts l n (d .tries) (d .view) (asking m reading) → DeskDone start l n (completes n d Read1)
@@ -108,7 +111,7 @@ module _ {start : ℕ} {l : Log} {n : ℕ} (S : Sound start l) (s : n < 4) (d : 
       cases (DeskDone start l n) (d .agreed)
       (λ e. record {
         mid = settle o ∷ l;
-        quiet = add {e = settle o} refl stay;
+        quiet = add {e = settle o} settles-on stay;
         log = finish o ∷ settle o ∷ l;
         ending = ends o says-read refl refl refl (F .small);
         sound = sound-more (finish o) S1 (at-once-justified f r y S (agreed (record {
@@ -119,11 +122,8 @@ module _ {start : ℕ} {l : Log} {n : ℕ} (S : Sound start l) (s : n < 4) (d : 
         tied = record { stage = resting; facts = desk-rests-at-once f r y S; phased = at-rest };
         sent = all-none;
       })
-      (λ e. begins-done d Read2 (d .view) (d .best) (putting o)
-      (add {e = ask n (suc (d .tries)) m (d .view) (put r y)} refl (add {e = settle o} refl stay))
-      (sound-more (ask n (suc (d .tries)) m (d .view) (put r y)) S1 (put-justified f r y)) (desk-puts f r y S)
-      (at-read2 refl (clear-acks d Read2 (d .view) (d .best) (suc (d .tries)) refl refl (F .small)))
-      (λ k. (n, m, refl, List·Memᴰ·head refl, F .small)))
+      (λ e. begins-done d Read2 (d .view) (d .best) refl (add {e = settle o} settles-on stay) S1 (put-justified f r y) (desk-puts f r y S)
+      (at-read2 refl (clear-acks d Read2 (d .view) (d .best) (suc (d .tries)) refl refl (F .small))))
 
   -- "write 1 takes (greatest count + 1, own number) and starts write 2"
   write1-done : {m : ℕ} → Firsts l n d → DeskFacts l n (d .tries) (d .view) (asking m (writing (d .holds .value))) → DeskDone start l n (completes n d Write1)
@@ -137,11 +137,8 @@ module _ {start : ℕ} {l : Log} {n : ℕ} (S : Sound start l) (s : n < 4) (d : 
       let e : r ≡ num (p .stamp) = omega (arith, F .small) in
       let S1 : Sound start (settle o ∷ l) = sound-more (settle o) S (settle-justified f r y (write-justified q (F .notes))) in
       cases (DeskDone start l n) (full (d .best .stamp .count)) (λ z. tt)
-      (λ z. begins-done d Write2 (d .view) p (putting o)
-      (add {e = ask n (suc (d .tries)) m (d .view) (put r y)} refl (add {e = settle o} refl stay))
-      (sound-more (ask n (suc (d .tries)) m (d .view) (put r y)) S1 (put-justified f r y)) (desk-puts f r y S)
-      (at-write2 refl (clear-acks d Write2 (d .view) p (suc (d .tries)) e refl s))
-      (λ k. (n, m, refl, List·Memᴰ·head (λ i. ask n (suc (d .tries)) m (d .view) (put (sym e i) y)), s)))
+      (λ z. begins-done d Write2 (d .view) p refl (add {e = settle o} settles-on stay) S1 (put-justified f r y) (desk-puts f r y S)
+      (at-write2 refl (clear-acks d Write2 (d .view) p (suc (d .tries)) e refl s)))
 
   acknowledged : {o : Op} → Acks l n d o → Most (d .view) (λ k. (r : ℕ) × (z : ℕ) × (l ∋ reply k n (d .tries) (d .view) r z))
   acknowledged A = record { voters = d .replied; quorum = q; each = λ k a i b. A .each k b }

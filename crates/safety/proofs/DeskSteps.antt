@@ -1,8 +1,8 @@
 -- What a rule at one desk must do to the log, and the rules READ, WRITE and of a view reply: their entries are justified, and the desk stays tied.
 -- Assumes nothing.
-use mathlib.Core.Path.{_≡_, refl, sym, subst}
+use mathlib.Core.Path.{_≡_, refl, sym, subst, ap}
 use mathlib.Core.Bool.{true, false, not, _&&_, false≢true, and-eq-true-iff}
-use mathlib.Core.List.{List, [], _∷_, List·Memᴰ·head}
+use mathlib.Core.List.{List, [], _∷_}
 use Prim.Native.Nat.{ℕ, suc, _+_, _<_}
 use native.Mathlib.Omega.{arith}
 use borrow.Author.Tests.{not-true}
@@ -18,53 +18,17 @@ use Rattle.rules.specs.State.{crashedDesk}
 use Rattle.rules.specs.Desks.{isIdle, full, cleared, asks, begins, readAsked, writeAsked, current, viewCame}
 use Rattle.safety.proofs.Lists.{All, all-none}
 use Rattle.safety.proofs.Numbers.{num, Small}
-use Rattle.safety.proofs.Log.{Task, reading, writing, Op, get, put, Entry, Log, first, own, conv, raise, state, enter, begin, ask, reply, settle, finish, Sound}
+use Rattle.safety.proofs.Log.{Task, reading, writing, Op, Ask, Entry, tag, Log, begin, ask, finish, Asks, Sound}
 use Rattle.safety.proofs.Past.{sound-more}
 use Rattle.safety.proofs.Growth.{Since, stay, add, ByDesk, Plain}
-use Rattle.safety.proofs.DeskFacts.{DeskFacts, Stage, resting, asking, putting, begin-justified, first-ask-justified, desk-begins, again-justified, desk-again, put-again-justified, desk-puts-again}
+use Rattle.safety.proofs.DeskFacts.{DeskFacts, Doing, asks as asks-now, puts as puts-now, Stage, resting, begin-justified, first-ask-justified, desk-begins, again-justified, desk-again, put-again-justified, desk-puts-again}
 use Rattle.safety.proofs.Notes.{notes-none}
 use Rattle.safety.proofs.Ties.{Firsts, Acks, Phased, at-rest, at-read1, at-write1, at-read2, at-write2, DeskTied, Backed, SendingBacked}
 use Rattle.safety.proofs.Grown.{sent-alike}
 
 -- the entries of the desk d that neither begin nor end an operation
 abbrev pub Asking : ℕ → Entry → Type 0
-Asking d (first j u q) = ⊥
-Asking d (own j u q) = ⊥
-Asking d (conv j u q) = ⊥
-Asking d (raise u q) = ⊥
-Asking d (state j x o w s y) = ⊥
-Asking d (enter j o w q s y) = ⊥
-Asking d (begin b n a) = ⊥
-Asking d (ask b n m u a) = b ≡ d
-Asking d (reply j b n u s y) = ⊥
-Asking d (settle o) = o .desk ≡ d
-Asking d (finish o) = ⊥
-
-pub asking-by : (d : ℕ) (e : Entry) → Asking d e → ByDesk d e
-asking-by d (first j u q) h = h
-asking-by d (own j u q) h = h
-asking-by d (conv j u q) h = h
-asking-by d (raise u q) h = h
-asking-by d (state j x o w s y) h = h
-asking-by d (enter j o w q s y) h = h
-asking-by d (begin b n a) h = absurd h
-asking-by d (ask b n m u a) h = h
-asking-by d (reply j b n u s y) h = h
-asking-by d (settle o) h = h
-asking-by d (finish o) h = absurd h
-
-pub asking-plain : (d : ℕ) (e : Entry) → Asking d e → Plain e
-asking-plain d (first j u q) h = tt
-asking-plain d (own j u q) h = tt
-asking-plain d (conv j u q) h = tt
-asking-plain d (raise u q) h = tt
-asking-plain d (state j x o w s y) h = tt
-asking-plain d (enter j o w q s y) h = tt
-asking-plain d (begin b n a) h = h
-asking-plain d (ask b n m u a) h = tt
-asking-plain d (reply j b n u s y) h = tt
-asking-plain d (settle o) h = tt
-asking-plain d (finish o) h = h
+Asking d e = ByDesk d e × Plain e
 
 -- an operation's end is the last entry of its step, and is told
 pub data Says : Event → Pair → Type 0 where
@@ -114,25 +78,33 @@ module _ {l : Log} {n : ℕ} (d : Desk) (ph : Phase) (v : ℕ) (p : Pair) (t : �
   pub clear-acks : {o : Op} → o .stamp ≡ num (p .stamp) → o .value ≡ p .value → Small p → Acks l n (cleared d ph v p t) o
   clear-acks e f s = record { each = λ k b. absurd (contrary b (bit-none k)); stamp-is = e; value-is = f; small = s }
 
+-- what a phase sends is backed by its ask
+said : {m : Log} {n : ℕ} {d : Desk} {t v : ℕ} {ph : Phase} {s : Stage} → isIdle ph ≡ false → Phased m n d ph s → Doing m n t v s → (k : ℕ) → Backed m (8 + n) k (asks ph t v (d .holds))
+said e at-rest f k = absurd (false≢true (sym e))
+said e (at-read1 x) (asks-now b q g) k = (_, _, refl, q)
+said e (at-write1 x) (asks-now b q g) k = (_, _, refl, q)
+said e (at-read2 z x) (puts-now i b c q g) k = (_, _, refl, rw (x .stamp-is, x .value-is) at q, x .small)
+said e (at-write2 z x) (puts-now i b c q g) k = (_, _, refl, rw (x .stamp-is, x .value-is) at q, x .small)
+
 module _ {start : ℕ} {l : Log} {n : ℕ} where
   pub still : (d : Desk) → Sound start l → DeskTied l n d → DeskDone start l n (quietly d)
   still d S h = record { mid = l; quiet = stay; log = l; ending = goes-on; sound = S; tied = h; sent = all-none }
 
-  pub begins-done : (d : Desk) (ph : Phase) (v : ℕ) (p : Pair) (s : Stage) {m : Log} → Since (Asking n) l m → Sound start m
-      → DeskFacts m n (suc (d .tries)) v s
-      → Phased m n (cleared d ph v p (suc (d .tries))) ph s → ((k : ℕ) → Backed m (8 + n) k (asks ph (suc (d .tries)) v p))
-      → DeskDone start l n (begins d ph v p)
+  pub begins-done : (d : Desk) (ph : Phase) (v : ℕ) (p : Pair) {s : Stage} {m : Log} {o : ℕ} {a : Ask} → isIdle ph ≡ false → Since (Asking n) l m → Sound start m
+      → Asks m n (suc (d .tries)) o a → DeskFacts (ask n (suc (d .tries)) o v a ∷ m) n (suc (d .tries)) v s
+      → Phased (ask n (suc (d .tries)) o v a ∷ m) n (cleared d ph v p (suc (d .tries))) ph s → DeskDone start l n (begins d ph v p)
   unfolding begins
-  begins-done d ph v p s {m} g S h f b =
-      cases (DeskDone start l n) (full (d .tries)) (λ e. tt)
-      (λ e. subst (λ (t : ℕ). DeskStep start l n (cleared d ph v p t) (toMembers v (asks ph t v p) ∷ []) nothing) up (record {
-        mid = m;
-        quiet = g;
-        log = m;
+  begins-done d ph v p {s} {m} {o} {a} i g S j h f =
+      let e : Entry = ask n (suc (d .tries)) o v a in
+      cases (DeskDone start l n) (full (d .tries)) (λ _. tt)
+      (λ _. subst (λ (t : ℕ). DeskStep start l n (cleared d ph v p t) (toMembers v (asks ph t v p) ∷ []) nothing) up (record {
+        mid = e ∷ m;
+        quiet = add {e = e} (refl, (λ d t a c. omega (arith, ap tag c), λ o c. omega (arith, ap tag c))) g;
+        log = e ∷ m;
         ending = goes-on;
-        sound = S;
+        sound = sound-more e S j;
         tied = record { stage = s; facts = h; phased = f };
-        sent = sent-alike m (8 + n) (toMembers v (asks ph (suc (d .tries)) v p)) b;
+        sent = sent-alike (e ∷ m) (8 + n) (toMembers v (asks ph (suc (d .tries)) v p)) (said i f (h .doing));
       }))
     where
       up : suc (d .tries) ≡ d .tries + 1
@@ -159,49 +131,33 @@ module _ {start : ℕ} {l : Log} {n : ℕ} (S : Sound start l) (d : Desk) (h : D
     pub read-done : DeskDone start (begin n (suc (d .tries)) reading ∷ l) n (readAsked d)
     unfolding readAsked
     read-done = cases (DeskDone start (begin n (suc (d .tries)) reading ∷ l) n) (isIdle (d .phase))
-        (λ e. begins-done d Read1 (d .view) zeroPair (asking (suc (d .tries)) reading)
-        (add {e = ask n (suc (d .tries)) (suc (d .tries)) (d .view) get} refl stay)
-        (sound-more (ask n (suc (d .tries)) (suc (d .tries)) (d .view) get) (begin-sound reading s e) (first-ask-justified (idle-rests e)))
-        (desk-begins (idle-rests e))
-        (at-read1 (clear-firsts d Read1 (d .view) zeroPair (suc (d .tries))))
-        (λ k. (n, suc (d .tries), refl, List·Memᴰ·head refl)))
+        (λ e. begins-done d Read1 (d .view) zeroPair refl stay (begin-sound reading s e) (first-ask-justified (idle-rests e)) (desk-begins (idle-rests e))
+        (at-read1 (clear-firsts d Read1 (d .view) zeroPair (suc (d .tries)))))
         (λ e. tt)
 
     pub write-done : (x : ℕ) → DeskDone start (begin n (suc (d .tries)) (writing x) ∷ l) n (writeAsked d x)
     unfolding writeAsked
     write-done x = cases (DeskDone start (begin n (suc (d .tries)) (writing x) ∷ l) n) (isIdle (d .phase))
-        (λ e. begins-done d Write1 (d .view) (record { stamp = zeroPair .stamp; value = x }) (asking (suc (d .tries)) (writing x))
-        (add {e = ask n (suc (d .tries)) (suc (d .tries)) (d .view) get} refl stay)
-        (sound-more (ask n (suc (d .tries)) (suc (d .tries)) (d .view) get) (begin-sound (writing x) s e) (first-ask-justified (idle-rests e)))
-        (desk-begins (idle-rests e))
-        (at-write1 (clear-firsts d Write1 (d .view) (record { stamp = zeroPair .stamp; value = x }) (suc (d .tries))))
-        (λ k. (n, suc (d .tries), refl, List·Memᴰ·head refl)))
+        (λ e.
+        let p : Pair = record { stamp = zeroPair .stamp; value = x } in
+        begins-done d Write1 (d .view) p refl stay (begin-sound (writing x) s e) (first-ask-justified (idle-rests e)) (desk-begins (idle-rests e))
+        (at-write1 (clear-firsts d Write1 (d .view) p (suc (d .tries)))))
         (λ e. tt)
 
   -- "A view reply that strictly includes the desk's view is adopted and the phase starts again; any other does nothing."
   restarts : (v : ℕ) {p : Phase} {s : Stage} → Phased l n d p s → DeskFacts l n (d .tries) (d .view) s → isIdle p ≡ false
       → DeskDone start l n (begins d p v (d .holds))
   restarts v at-rest f e = absurd (false≢true (sym e))
-  restarts v (at-read1 {m = m} x) f e =
-      begins-done d Read1 v (d .holds) (asking m reading)
-      (add {e = ask n (suc (d .tries)) m v get} refl stay) (sound-more (ask n (suc (d .tries)) m v get) S (again-justified f)) (desk-again f)
-      (at-read1 (clear-firsts d Read1 v (d .holds) (suc (d .tries)))) (λ k. (n, m, refl, List·Memᴰ·head refl))
-  restarts v (at-write1 {m = m} x) f e =
-      begins-done d Write1 v (d .holds) (asking m (writing (d .holds .value)))
-      (add {e = ask n (suc (d .tries)) m v get} refl stay) (sound-more (ask n (suc (d .tries)) m v get) S (again-justified f)) (desk-again f)
-      (at-write1 (clear-firsts d Write1 v (d .holds) (suc (d .tries)))) (λ k. (n, m, refl, List·Memᴰ·head refl))
-  restarts v (at-read2 {o = o} t x) f e =
-      begins-done d Read2 v (d .holds) (putting o)
-      (add {e = ask n (suc (d .tries)) (o .try) v (put (o .stamp) (o .value))} refl stay)
-      (sound-more (ask n (suc (d .tries)) (o .try) v (put (o .stamp) (o .value))) S (put-again-justified f)) (desk-puts-again f)
+  restarts v (at-read1 x) f e =
+      begins-done d Read1 v (d .holds) e stay S (again-justified f) (desk-again f) (at-read1 (clear-firsts d Read1 v (d .holds) (suc (d .tries))))
+  restarts v (at-write1 x) f e =
+      begins-done d Write1 v (d .holds) e stay S (again-justified f) (desk-again f) (at-write1 (clear-firsts d Write1 v (d .holds) (suc (d .tries))))
+  restarts v (at-read2 t x) f e =
+      begins-done d Read2 v (d .holds) e stay S (put-again-justified f) (desk-puts-again f)
       (at-read2 t (clear-acks d Read2 v (d .holds) (suc (d .tries)) (x .stamp-is) (x .value-is) (x .small)))
-      (λ k. (n, o .try, refl, List·Memᴰ·head (λ i. ask n (suc (d .tries)) (o .try) v (put (sym (x .stamp-is) i) (sym (x .value-is) i))), x .small))
-  restarts v (at-write2 {o = o} t x) f e =
-      begins-done d Write2 v (d .holds) (putting o)
-      (add {e = ask n (suc (d .tries)) (o .try) v (put (o .stamp) (o .value))} refl stay)
-      (sound-more (ask n (suc (d .tries)) (o .try) v (put (o .stamp) (o .value))) S (put-again-justified f)) (desk-puts-again f)
+  restarts v (at-write2 t x) f e =
+      begins-done d Write2 v (d .holds) e stay S (put-again-justified f) (desk-puts-again f)
       (at-write2 t (clear-acks d Write2 v (d .holds) (suc (d .tries)) (x .stamp-is) (x .value-is) (x .small)))
-      (λ k. (n, o .try, refl, List·Memᴰ·head (λ i. ask n (suc (d .tries)) (o .try) v (put (sym (x .stamp-is) i) (sym (x .value-is) i))), x .small))
 
   pub view-done : (from try v : ℕ) → DeskDone start l n (viewCame d from try v)
   unfolding viewCame

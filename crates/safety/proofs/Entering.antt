@@ -102,7 +102,7 @@ module _ {start : ℕ} {l : Log} {k : ℕ} (S : Sound start l) where
     entering-sound = sound-more _ S (enter-justified (p .raised) (kept-least (p .kept) (p .least)) m (d .notes))
 
     entering-since : Since (ByRelay k) l entering
-    entering-since = add {e = enter k (t .old) (t .new) (t .sequence) (num (t .best .stamp)) (t .best .value)} refl stay
+    entering-since = add {e = enter k (t .old) (t .new) (t .sequence) (num (t .best .stamp)) (t .best .value)} (inl refl) stay
 
     moved-tied : (active : Bool) → (active ≡ true → Single (t .new) (t .sequence)) → RelayTied start entering k (moved r t active)
     unfolding moved
@@ -226,7 +226,7 @@ module _ {start : ℕ} {l : Log} {k : ℕ} (S : Sound start l) (r : Relay) (o w 
   hands : member o k ≡ true → (r .view ≡ o) ⊎ Inside o (r .view) → (q : List ℕ) → Plan l o w q
       → RelayDone start l k (sentFirst (handed k r o w) (takesInstall k (stopped k r o w) o w q))
   hands m i q p =
-      after-entries start {l = l} {m = handing} {k = k} (add {e = state k (r .view) o w (num (r .holds .stamp)) (r .holds .value)} refl stay)
+      after-entries start {l = l} {m = handing} {k = k} (add {e = state k (r .view) o w (num (r .holds .stamp)) (r .holds .value)} (inl refl) stay)
       (sentFirst (handed k r o w) (takesInstall k (stopped k r o w) o w q))
       (first-sent start (handed k r o w) (takesInstall k (stopped k r o w) o w q)
       (takes-done (sound-more _ S (state-justified (h .facts) (entered-there m i) i)) (stopped k r o w) o w q (stopped-tied m) (plan-since one-more p))

@@ -1,18 +1,19 @@
 -- As the log grows, what is tied to it stays tied: messages, transfers and notes by any entries, a relay by those of other relays and of desks,
 -- a desk by those of other desks and of relays. Assumes nothing.
-use mathlib.Core.Path.{_≡_, sym, subst, _∙_}
+use mathlib.Core.Path.{_≡_, sym, ap}
 use mathlib.Core.Logic.{_⊎_, inl, inr}
 use mathlib.Core.Bool.{Bool}
 use mathlib.Core.List.{List, [], _∷_, List·Memᴰ·tail}
 use Prim.Native.Nat.{ℕ}
+use native.Mathlib.Omega.{arith}
 use Rattle.rules.specs.Messages.{Body, request, view, proposal, converged, install, state as stateSays, get as getSays, put as putSays, viewReply, pairReply, ack, Sending}
 use Rattle.rules.specs.State.{Generator, Transfer, Relay, Place, free, waiting}
 use Rattle.rules.specs.declared.Desk.{Desk}
 use Rattle.rules.specs.declared.Phase.{Phase}
 use Rattle.safety.proofs.Lists.{All, all-none, all-more, all-map}
-use Rattle.safety.proofs.Log.{Op, Entry, Log, _∋_, first, own, conv, raise, state, enter, begin, ask, reply, settle, finish}
-use Rattle.safety.proofs.Growth.{Since, stay, add, since-has, one-more, Turning, ByRelay, ByDesk}
-use Rattle.safety.proofs.RelayFacts.{About, RelayFacts, relay-other}
+use Rattle.safety.proofs.Log.{Op, Entry, Log, _∋_, conv}
+use Rattle.safety.proofs.Growth.{Since, stay, add, since-has, one-more, doer, ByRelay, ByDesk, About, Turning, relay-only, not-desk}
+use Rattle.safety.proofs.RelayFacts.{RelayFacts, relay-other}
 use Rattle.safety.proofs.GeneratorFacts.{generator-other}
 use Rattle.safety.proofs.DeskFacts.{Stage, desk-other}
 use Rattle.safety.proofs.Notes.{notes-more}
@@ -130,99 +131,34 @@ desk-more f h = record { stage = h .stage; facts = desk-other (h .facts) f; phas
 
 -- ---- entries of others
 
-about-other : (j k : ℕ) (e : Entry) → (j ≡ k → ⊥) → ByRelay k e → About j e → ⊥
-about-other j k (first i u q) n h a = a
-about-other j k (own i u q) n h a = a
-about-other j k (conv i u q) n h a = a
-about-other j k (raise u q) n h a = a
-about-other j k (state i x o w s y) n h a = n (a ∙ h)
-about-other j k (enter i o w q s y) n h a = n (a ∙ h)
-about-other j k (begin d t b) n h a = a
-about-other j k (ask d t m u b) n h a = a
-about-other j k (reply i d t u s y) n h a = n (a ∙ h)
-about-other j k (settle o) n h a = a
-about-other j k (finish o) n h a = a
-
-about-desk : (j d : ℕ) (e : Entry) → ByDesk d e → About j e → ⊥
-about-desk j d (first i u q) h a = a
-about-desk j d (own i u q) h a = a
-about-desk j d (conv i u q) h a = a
-about-desk j d (raise u q) h a = a
-about-desk j d (state i x o w s y) h a = h
-about-desk j d (enter i o w q s y) h a = h
-about-desk j d (begin b t c) h a = a
-about-desk j d (ask b t m u c) h a = a
-about-desk j d (reply i b t u s y) h a = h
-about-desk j d (settle o) h a = a
-about-desk j d (finish o) h a = a
-
-desk-of-relay : (n k : ℕ) (e : Entry) → ByRelay k e → ByDesk n e → ⊥
-desk-of-relay n k (first i u q) h a = a
-desk-of-relay n k (own i u q) h a = a
-desk-of-relay n k (conv i u q) h a = a
-desk-of-relay n k (raise u q) h a = a
-desk-of-relay n k (state i x o w s y) h a = a
-desk-of-relay n k (enter i o w q s y) h a = a
-desk-of-relay n k (begin b t c) h a = h
-desk-of-relay n k (ask b t m u c) h a = h
-desk-of-relay n k (reply i b t u s y) h a = a
-desk-of-relay n k (settle o) h a = h
-desk-of-relay n k (finish o) h a = h
-
-desk-of-other : (n d : ℕ) (e : Entry) → (n ≡ d → ⊥) → ByDesk d e → ByDesk n e → ⊥
-desk-of-other n d (first i u q) f h a = a
-desk-of-other n d (own i u q) f h a = a
-desk-of-other n d (conv i u q) f h a = a
-desk-of-other n d (raise u q) f h a = a
-desk-of-other n d (state i x o w s y) f h a = a
-desk-of-other n d (enter i o w q s y) f h a = a
-desk-of-other n d (begin b t c) f h a = f (sym a ∙ h)
-desk-of-other n d (ask b t m u c) f h a = f (sym a ∙ h)
-desk-of-other n d (reply i b t u s y) f h a = a
-desk-of-other n d (settle o) f h a = f (sym a ∙ h)
-desk-of-other n d (finish o) f h a = f (sym a ∙ h)
-
 module _ {start : ℕ} {r : Relay} where
   pub relay-by-relay : (j k : ℕ) {l m : Log} → (j ≡ k → ⊥) → Since (ByRelay k) l m → RelayTied start l j r → RelayTied start m j r
   relay-by-relay j k n stay h = h
-  relay-by-relay j k n (add {e = e} b s) h =
-      relay-more (about-other j k e n b) (λ v q c. n (subst (λ (x : Entry). ByRelay k x) (sym c) b)) (relay-by-relay j k n s h)
+  relay-by-relay j k n (add b s) h =
+      relay-more (λ a. n (relay-only b (a .0))) (λ v q c. n (relay-only b (ap doer (sym c)))) (relay-by-relay j k n s h)
 
   pub relay-by-desk : (j d : ℕ) {l m : Log} → Since (ByDesk d) l m → RelayTied start l j r → RelayTied start m j r
   relay-by-desk j d stay h = h
-  relay-by-desk j d (add {e = e} b s) h =
-      relay-more (about-desk j d e b) (λ v q c. subst (λ (x : Entry). ByDesk d x) (sym c) b) (relay-by-desk j d s h)
+  relay-by-desk j d (add b s) h =
+      relay-more (λ a. not-desk (inl (a .0)) b) (λ v q c. not-desk (inl (ap doer (sym c))) b) (relay-by-desk j d s h)
 
 module _ {d : Desk} where
   pub desk-by-relay : (n k : ℕ) {l m : Log} → Since (ByRelay k) l m → DeskTied l n d → DeskTied m n d
   desk-by-relay n k stay h = h
-  desk-by-relay n k (add {e = e} b s) h = desk-more (desk-of-relay n k e b) (desk-by-relay n k s h)
+  desk-by-relay n k (add b s) h = desk-more (not-desk b) (desk-by-relay n k s h)
 
   pub desk-by-desk : (n b : ℕ) {l m : Log} → (n ≡ b → ⊥) → Since (ByDesk b) l m → DeskTied l n d → DeskTied m n d
   desk-by-desk n b f stay h = h
-  desk-by-desk n b f (add {e = e} p s) h = desk-more (desk-of-other n b e f p) (desk-by-desk n b f s h)
+  desk-by-desk n b f (add p s) h = desk-more (λ a. f (cc)) (desk-by-desk n b f s h)
 
 -- ---- the entries of one generator: no other of its relay's is touched, nor the relay's record
-
-about-turning : (k v : ℕ) (e : Entry) → Turning k v e → About k e → ⊥
-about-turning k v (first i u q) h a = a
-about-turning k v (own i u q) h a = a
-about-turning k v (conv i u q) h a = a
-about-turning k v (raise u q) h a = a
-about-turning k v (state i x o w s y) h a = h
-about-turning k v (enter i o w q s y) h a = h
-about-turning k v (begin b t c) h a = h
-about-turning k v (ask b t m u c) h a = h
-about-turning k v (reply i b t u s y) h a = h
-about-turning k v (settle o) h a = h
-about-turning k v (finish o) h a = h
 
 module _ (k v : ℕ) where
   pub facts-turning : {start : ℕ} {l m : Log} {u s y : ℕ} {i a : Bool} → Since (Turning k v) l m
       → RelayFacts start l k u s y i a → RelayFacts start m k u s y i a
   facts-turning stay h = h
-  facts-turning (add {e = e} b s) h = relay-other (facts-turning s h) (about-turning k v e b)
+  facts-turning (add b s) h = relay-other (facts-turning s h) (λ a. omega arith)
 
   pub generator-turning : (u : ℕ) {l m : Log} {g : Generator} → (u ≡ v → ⊥) → Since (Turning k v) l m → GeneratorTied l k u g → GeneratorTied m k u g
   generator-turning u n stay h = h
-  generator-turning u n (add {e = e} b s) h = generator-more (λ q c. n (subst (λ (x : Entry). Turning k v x) (sym c) b .1)) (generator-turning u n s h)
+  generator-turning u n (add b s) h = generator-more (λ q c. n (b .2 u q c)) (generator-turning u n s h)

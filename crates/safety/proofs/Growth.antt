@@ -1,8 +1,10 @@
 -- How a log grows by the entries of one step: all of one relay, or all of one desk. What a log shows stays shown. Assumes nothing.
-use mathlib.Core.Path.{_≡_}
-use mathlib.Core.List.{_∷_, List·Memᴰ·tail}
-use Prim.Native.Nat.{ℕ}
-use Rattle.safety.proofs.Log.{Entry, Log, _∋_, first, own, conv, raise, state, enter, begin, ask, reply, settle, finish, Active, active-start, active-enter}
+use mathlib.Core.Path.{_≡_, sym, ap}
+use mathlib.Core.Logic.{_⊎_, inl, inr}
+use mathlib.Core.List.{List, _∷_, List·Memᴰ·tail}
+use Prim.Native.Nat.{ℕ, _≤_, _<_}
+use native.Mathlib.Omega.{arith}
+use Rattle.safety.proofs.Log.{Task, Op, Entry, tag, Log, _∋_, first, own, conv, raise, state, enter, begin, ask, reply, settle, finish, Active, active-start, active-enter}
 use Rattle.safety.proofs.Past.{Past, now, past-later}
 
 -- m is l with entries that P allows added
@@ -34,87 +36,54 @@ Any e = Unit {0}
 pub one-more : {e : Entry} {l : Log} → Since Any l (e ∷ l)
 one-more = add tt stay
 
--- the entries of the generator of the relay k for the view v
-abbrev pub Turning : ℕ → ℕ → Entry → Type 0
-Turning k v (first j u q) = (j ≡ k) × (u ≡ v)
-Turning k v (own j u q) = (j ≡ k) × (u ≡ v)
-Turning k v (conv j u q) = (j ≡ k) × (u ≡ v)
-Turning k v (raise u q) = u ≡ v
-Turning k v (state j x o w s y) = ⊥
-Turning k v (enter j o w q s y) = ⊥
-Turning k v (begin d n a) = ⊥
-Turning k v (ask d n m u a) = ⊥
-Turning k v (reply j d n u s y) = ⊥
-Turning k v (settle o) = ⊥
-Turning k v (finish o) = ⊥
+-- whose an entry is: a quorum raises a sequence, so that entry may come with those of any relay
+pub data Doer : Type 0 where
+  of-relay : ℕ → Doer
+  of-desk : ℕ → Doer
+  of-quorum : Doer
 
--- the entries of the relay k
+abbrev pub doer : Entry → Doer
+doer (first k v q) = of-relay k
+doer (own k v q) = of-relay k
+doer (conv k v q) = of-relay k
+doer (raise v q) = of-quorum
+doer (state k x o w s y) = of-relay k
+doer (enter k o w q s y) = of-relay k
+doer (begin d t a) = of-desk d
+doer (ask d t n v a) = of-desk d
+doer (reply k d t v s y) = of-relay k
+doer (settle o) = of-desk (o .desk)
+doer (finish o) = of-desk (o .desk)
+
+-- the entries of the relay k, and of the desk d
 abbrev pub ByRelay : ℕ → Entry → Type 0
-ByRelay k (first j u q) = j ≡ k
-ByRelay k (own j u q) = j ≡ k
-ByRelay k (conv j u q) = j ≡ k
-ByRelay k (raise u q) = Unit {0}
-ByRelay k (state j x o w s y) = j ≡ k
-ByRelay k (enter j o w q s y) = j ≡ k
-ByRelay k (begin d n a) = ⊥
-ByRelay k (ask d n m u a) = ⊥
-ByRelay k (reply j d n u s y) = j ≡ k
-ByRelay k (settle o) = ⊥
-ByRelay k (finish o) = ⊥
+ByRelay k e = (doer e ≡ of-relay k) ⊎ (doer e ≡ of-quorum)
 
--- the entries of the desk d
 abbrev pub ByDesk : ℕ → Entry → Type 0
-ByDesk d (first j u q) = ⊥
-ByDesk d (own j u q) = ⊥
-ByDesk d (conv j u q) = ⊥
-ByDesk d (raise u q) = ⊥
-ByDesk d (state j x o w s y) = ⊥
-ByDesk d (enter j o w q s y) = ⊥
-ByDesk d (begin b n a) = b ≡ d
-ByDesk d (ask b n m u a) = b ≡ d
-ByDesk d (reply j b n u s y) = ⊥
-ByDesk d (settle o) = o .desk ≡ d
-ByDesk d (finish o) = o .desk ≡ d
+ByDesk d e = doer e ≡ of-desk d
+
+-- those that show something of the relay k, and those of its generator for the view v
+abbrev pub About : ℕ → Entry → Type 0
+About k e = (doer e ≡ of-relay k) × (3 < tag e)
+
+abbrev pub Turning : ℕ → ℕ → Entry → Type 0
+Turning k v e = ByRelay k e × (tag e ≤ 3) × ((u : ℕ) (q : List ℕ) → conv k u q ≡ e → u ≡ v)
 
 -- those that neither begin nor end an operation
 abbrev pub Plain : Entry → Type 0
-Plain (first j u q) = Unit {0}
-Plain (own j u q) = Unit {0}
-Plain (conv j u q) = Unit {0}
-Plain (raise u q) = Unit {0}
-Plain (state j x o w s y) = Unit {0}
-Plain (enter j o w q s y) = Unit {0}
-Plain (begin d n a) = ⊥
-Plain (ask d n m u a) = Unit {0}
-Plain (reply j d n u s y) = Unit {0}
-Plain (settle o) = Unit {0}
-Plain (finish o) = ⊥
+Plain e = ((d t : ℕ) (a : Task) → begin d t a ≡ e → ⊥) × ((o : Op) → finish o ≡ e → ⊥)
 
-pub turning-by : (k v : ℕ) (e : Entry) → Turning k v e → ByRelay k e
-turning-by k v (first j u q) h = h .0
-turning-by k v (own j u q) h = h .0
-turning-by k v (conv j u q) h = h .0
-turning-by k v (raise u q) h = tt
-turning-by k v (state j x o w s y) h = absurd h
-turning-by k v (enter j o w q s y) h = absurd h
-turning-by k v (begin d n a) h = absurd h
-turning-by k v (ask d n m u a) h = absurd h
-turning-by k v (reply j d n u s y) h = absurd h
-turning-by k v (settle o) h = absurd h
-turning-by k v (finish o) h = absurd h
+module _ {x : Doer} {k : ℕ} where
+  pub relay-only : {j : ℕ} → (x ≡ of-relay k) ⊎ (x ≡ of-quorum) → x ≡ of-relay j → j ≡ k
+  relay-only (inl h) a = cc
+  relay-only (inr h) a = cc
+
+  pub not-desk : {d : ℕ} → (x ≡ of-relay k) ⊎ (x ≡ of-quorum) → x ≡ of-desk d → ⊥
+  not-desk (inl h) a = let z : _≡_ {A = ℕ} 0 1 = cc in omega arith
+  not-desk (inr h) a = let z : _≡_ {A = ℕ} 0 1 = cc in omega arith
 
 pub relay-plain : (k : ℕ) (e : Entry) → ByRelay k e → Plain e
-relay-plain k (first j u q) h = tt
-relay-plain k (own j u q) h = tt
-relay-plain k (conv j u q) h = tt
-relay-plain k (raise u q) h = tt
-relay-plain k (state j x o w s y) h = tt
-relay-plain k (enter j o w q s y) h = tt
-relay-plain k (begin d n a) h = absurd h
-relay-plain k (ask d n m u a) h = tt
-relay-plain k (reply j d n u s y) h = tt
-relay-plain k (settle o) h = tt
-relay-plain k (finish o) h = absurd h
+relay-plain k e h = (λ d t a c. not-desk h (ap doer (sym c)), λ o c. not-desk h (ap doer (sym c)))
 
 module _ {P : Entry → Type 0} {start : ℕ} where
   pub active-since : {l m : Log} {k v : ℕ} → Since P l m → Active start l k v → Active start m k v

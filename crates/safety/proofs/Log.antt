@@ -45,7 +45,7 @@ pub data Entry : Type 0 where
   settle : Op → Entry
   finish : Op → Entry
 
--- its kind, as a number: entries of different kinds differ
+-- its kind, as a number: entries of different kinds differ, and those that generators make have the least
 abbrev pub tag : Entry → ℕ
 tag (first k v q) = 0
 tag (own k v q) = 1

@@ -4,28 +4,15 @@ use mathlib.Core.Path.{_≡_, refl, sym, subst, ap}
 use mathlib.Core.Logic.{_⊎_, inl, inr}
 use mathlib.Core.Bool.{Bool, true, false, false≢true}
 use mathlib.Core.List.{List, [], _∷_, List·Memᴰ·head, List·Memᴰ·tail, List·Memᴰ·not-nil, List·Memᴰ·cases-cons}
-use Prim.Native.Nat.{ℕ, _≤_}
+use Prim.Native.Nat.{ℕ, _≤_, _<_}
 use native.Mathlib.Omega.{arith}
 use Rattle.views.proofs.Sets.{Inside, inside-irrefl, inside-trans}
 use Rattle.safety.proofs.Sequences.{Single}
-use Rattle.safety.proofs.Log.{Ask, Entry, tag, Log, _∋_, first, own, conv, raise, state, enter, begin, ask, reply, settle, finish, Shown, by-enter, by-reply, Current, Has, has-start, has-shown, Active, active-start, active-enter, State, Answers, Reply}
+use Rattle.safety.proofs.Log.{Ask, Entry, tag, Log, _∋_, state, enter, ask, reply, Shown, by-enter, by-reply, Current, Has, has-start, has-shown, Active, active-start, active-enter, State, Answers, Reply}
+use Rattle.safety.proofs.Growth.{of-relay, doer, About}
 use Rattle.safety.proofs.Entries.{older, past-kind}
 
 -- ---- a relay
-
--- the entries that show something of the relay k
-abbrev pub About : ℕ → Entry → Type 0
-About k (first j v q) = ⊥
-About k (own j v q) = ⊥
-About k (conv j v q) = ⊥
-About k (raise v q) = ⊥
-About k (state j x o w s y) = k ≡ j
-About k (enter j o w q s y) = k ≡ j
-About k (begin d n a) = ⊥
-About k (ask d n m v a) = ⊥
-About k (reply j d n v s y) = k ≡ j
-About k (settle o) = ⊥
-About k (finish o) = ⊥
 
 -- the relay k has the view v, the stamp s and the value y, has entered or not, and is active or not
 pub record RelayFacts (start : ℕ) (l : Log) (k v s y : ℕ) (in-view active : Bool) : Type 0 where
@@ -83,14 +70,14 @@ module _ {start : ℕ} {l : Log} {k v s y : ℕ} {i a : Bool} (r : RelayFacts st
   pub relay-other : {e : Entry} → (About k e → ⊥) → RelayFacts start (e ∷ l) k v s y i a
   relay-other {e} n = record {
     has = has-more;
-    current = λ u b z h. shown-cases h (λ o q c. absurd (other c refl)) (λ d m c. absurd (other c refl)) (λ h. r .current u b z h);
-    handed = λ x o w b z m. r .handed x o w b z (older (λ c. other c refl) m);
+    current = λ u b z h. shown-cases h (λ o q c. absurd (other c refl (omega arith))) (λ d m c. absurd (other c refl (omega arith))) (λ h. r .current u b z h);
+    handed = λ x o w b z m. r .handed x o w b z (older (λ c. other c refl (omega arith)) m);
     opened = active-more;
-    going = λ c o w b z m j. r .going c o w b z (older (λ c. other c refl) m) j;
+    going = λ c o w b z m j. r .going c o w b z (older (λ c. other c refl (omega arith)) m) j;
   }
     where
-      other : {f : Entry} → f ≡ e → About k f → ⊥
-      other c h = n (subst (λ (x : Entry). About k x) c h)
+      other : {f : Entry} → f ≡ e → doer f ≡ of-relay k → 3 < tag f → ⊥
+      other c h i = n (rw c at h, rw c at i)
 
   -- k enters w
   pub relay-enter : {o w b z : ℕ} {q : List ℕ} {opens : Bool} → Inside v w → (opens ≡ true → Single w q)

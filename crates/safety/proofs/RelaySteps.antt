@@ -21,7 +21,7 @@ use Rattle.rules.specs.Relays.{atGenerator, joinAsked, leaveAsked, timerRang, r
 use Rattle.safety.proofs.Lists.{All, all-none}
 use Rattle.safety.proofs.Bridge.{Kept}
 use Rattle.safety.proofs.Log.{Log, Active, by-timer, Sound}
-use Rattle.safety.proofs.Growth.{Since, stay, since-join, since-map, ByRelay, turning-by}
+use Rattle.safety.proofs.Growth.{Since, stay, since-join, since-map, ByRelay}
 use Rattle.safety.proofs.Ties.{GeneratorTied, TransferTied, RelayTied, SendingBacked}
 use Rattle.safety.proofs.Grown.{sent-alike, transfers-since, facts-turning, generator-turning}
 use Rattle.safety.proofs.Turns.{TurnDone, proposes-done}
@@ -109,7 +109,7 @@ module _ {start : ℕ} {l : Log} {k : ℕ} where
   unfolding atGenerator withGenerators
   at-generator {v} r t h d = record {
     log = d .log;
-    since = since-map (turning-by k v) (d .since);
+    since = since-map (λ e b. b .0) (d .since);
     sound = d .sound;
     tied = record {
       facts = facts-turning k v (d .since) (h .facts);

@@ -1,6 +1,6 @@
 -- Get and Put at a relay, and with them every message that comes to one: its entries are justified, and the relay stays tied. Assumes nothing.
 use mathlib.Core.Path.{_≡_, refl, sym, subst, ap, _∙_}
-use mathlib.Core.Logic.{⊎-elim}
+use mathlib.Core.Logic.{inl, ⊎-elim}
 use mathlib.Core.Bool.{true, false, not, _||_, and-eq-true-iff}
 use mathlib.Core.List.{[], _∷_, List·Memᴰ·head}
 use Prim.Native.Nat.{ℕ, _+_, _≤_}
@@ -47,7 +47,7 @@ module _ {start : ℕ} {l : Log} {k : ℕ} (S : Sound start l) (r : Relay) (h : 
     answered : (r' : Relay) (b : Body) → RelayTied start answering k r' → Backed answering k (8 + d) b → RelayDone start l k (sends r' (toOne (8 + d) b ∷ []))
     answered r' b g w = record {
       log = answering;
-      since = add {e = reply k d t (r .view) (num (p .stamp)) (p .value)} refl stay;
+      since = add {e = reply k d t (r .view) (num (p .stamp)) (p .value)} (inl refl) stay;
       sound = sound-more _ S (reply-justified (h .facts) a q up f);
       tied = g;
       sent = sent-one answering k (8 + d) b w;

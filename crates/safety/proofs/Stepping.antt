@@ -27,7 +27,7 @@ use Rattle.safety.proofs.Growth.{stay, add, since-join, since-map}
 use Rattle.safety.proofs.Ties.{DeskTied, Backed, PlaceBacked, WorldTied}
 use Rattle.safety.proofs.RelaySteps.{tied-crashed as relay-crashed, join-done, leave-done, timer-done}
 use Rattle.safety.proofs.Serving.{relay-hears}
-use Rattle.safety.proofs.DeskSteps.{asking-by, asking-plain, Says, says-read, says-write, Ending, goes-on, ends, DeskDone, tied-crashed as desk-crashed, read-done, write-done}
+use Rattle.safety.proofs.DeskSteps.{Says, says-read, says-write, Ending, goes-on, ends, DeskDone, tied-crashed as desk-crashed, read-done, write-done}
 use Rattle.safety.proofs.DeskReplies.{desk-hears}
 use Rattle.safety.proofs.Deeds.{Begins, quiet, begun, Moves, with-relay, with-desk, relay-does, desk-does}
 
@@ -59,10 +59,10 @@ module _ {start : ℕ} {l : Log} (a : Act) (w : World) (h : WorldTied start l w)
       (λ _. rw s (record {
         log = g .mid;
         sound = subst (λ (k : Log). Sound start k) (last (g .ending) s) (g .sound);
-        tied = with-desk w h n d ss i (since-join (add {e = begin n t b} refl stay) (since-map (asking-by n) (g .quiet)))
+        tied = with-desk w h n d ss i (since-join (add {e = begin n t b} refl stay) (since-map (λ e b. b .0) (g .quiet)))
             (subst (λ (k : Log). DeskTied k n d) (last (g .ending) s) (g .tied))
             (subst (λ (k : Log). All (Rattle.safety.proofs.Ties.SendingBacked k (8 + n)) ss) (last (g .ending) s) (g .sent));
-        deed = begun n t b i (since-map (asking-plain n) (g .quiet)) f (λ j ts. refl) refl;
+        deed = begun n t b i (since-map (λ e b. b .1) (g .quiet)) f (λ j ts. refl) refl;
       })) (λ _. tt)
     where
       never : {e : Event} {p : Pair} → Says e p → e ≡ nothing → ⊥

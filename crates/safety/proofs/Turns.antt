@@ -74,7 +74,7 @@ module _ {start : ℕ} {l : Log} {k v : ℕ} (S : Sound start l) where
           let G2 = generator-more {e = own k v q} (λ p c. omega (arith, ap tag c)) G1 in
           record {
             log = own k v q ∷ first k v q ∷ l;
-            since = add {e = own k v q} (refl, refl) (add {e = first k v q} (refl, refl) stay);
+            since = add {e = own k v q} (inl refl, omega arith, λ u z c. cc) (add {e = first k v q} (inl refl, omega arith, λ u z c. cc) stay);
             sound = sound-more (own k v q) (sound-more (first k v q) S j) (record { sequence = kept-sequence h; above = kept-above h; from = own-first (List·Memᴰ·head refl) });
             tied = record {
               view-is = G .view-is;
@@ -100,7 +100,7 @@ module _ {start : ℕ} {l : Log} {k v : ℕ} (S : Sound start l) where
           let G1 = generator-more {e = own k v p} (λ z c. omega (arith, ap tag c)) G in
           record {
             log = own k v p ∷ l;
-            since = add {e = own k v p} (refl, refl) stay;
+            since = add {e = own k v p} (inl refl, omega arith, λ u z c. cc) stay;
             sound = sound-more (own k v p) S (record { sequence = kept-sequence K; above = kept-above K; from = own-merge (G .facts .own-is) m M });
             tied = record {
               view-is = G .view-is;
@@ -154,7 +154,7 @@ module _ {start : ℕ} {l : Log} {k v : ℕ} (S : Sound start l) where
       })
       go e = record {
         log = conv k v (g .own) ∷ l;
-        since = add {e = conv k v (g .own)} (refl, refl) stay;
+        since = add {e = conv k v (g .own)} (inl refl, omega arith, λ u z c. cc) stay;
         sound = sound-more (conv k v (g .own)) S (conv-justified (G .facts) (full e) grows);
         tied = record {
           view-is = G .view-is;
@@ -205,7 +205,7 @@ module _ {start : ℕ} {l : Log} {k v : ℕ} (S : Sound start l) where
           })
       go H e = record {
         log = raise v q ∷ l;
-        since = add refl stay;
+        since = add {e = raise v q} (inr refl, omega arith, λ u z c. cc) stay;
         sound = sound-more (raise v q) S votes;
         tied = record {
           view-is = H1 .view-is;
