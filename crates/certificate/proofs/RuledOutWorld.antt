@@ -123,7 +123,7 @@ world-rehearse-printed-bad-always p = differ (entry 0) (p blank one page ∙ pri
 abbrev pub withTotals : ℕ → List Step → ℕ → ℕ → ℕ → ℕ → List ℕ
 withTotals mask ks sent delivered dropped waiting = startOf mask ++ (stepLines 1 (outcomes (start mask) ks) ++ endOf sent delivered dropped waiting)
 
--- the sheet of one step, WRITE 0 77; its record with the totals of a run that did nothing
+-- the sheet of one step, WRITE 0 77
 abbrev pub written : List ℕ
 written = mark ++ (1 ∷ 5 ∷ 0 ∷ 0 ∷ 0 ∷ 0 ∷ 0 ∷ 0 ∷ 77 ∷ [])
 
