@@ -1,14 +1,12 @@
 -- What the tests of a reply say. Assumes nothing.
-use Prim.Native.Nat.{ℕ, _<_, _≤_, _+_, _-_, _/_, _%_}
+use Prim.Native.Nat.{ℕ, _<_, _≤_, _+_}
 use mathlib.Core.Path.{_≡_, refl, _∙_}
 use mathlib.Core.Bool.{Bool, true, false, not, _&&_, _||_, and-eq-true-iff}
 use native.Mathlib.Omega.{arith}
 use lib.Dec.{eqb, leb}
-use lib.Bits.{and-le-l}
 use borrow.Author.Tests.{leb-true, eqb-false, ne-eqb}
-use Rattle.views.specs.View.{memberOf, membersOf}
 use Rattle.views.proofs.Truth.{cases, contrary}
-use Rattle.views.proofs.Digits.{bit-below}
+use Rattle.views.proofs.Sets.{member-lt}
 use Rattle.rules.specs.Sets.{if_then_else_, member}
 use Rattle.rules.specs.Messages as rules
 use Rattle.rules.specs.declared.Desk.{Desk}
@@ -21,14 +19,9 @@ pub or-if : (a b : Bool) → a || b ≡ (if a then true else b)
 or-if true b = refl
 or-if false b = refl
 
--- only relays 0 to 7 are members
-member-below : (v s : ℕ) → memberOf v s ≡ true → s < 8
-unfolding memberOf
-member-below v s e = bit-below 8 (membersOf v) s (omega (arith, and-le-l (v % 256) (255 - v / 256))) e
-
 pub current-below : (d : Desk) (from try : ℕ) → current d from try ≡ true → from < 8
 current-below d from try e =
-    member-below (d .view) from
+    member-lt (d .view) from
     (and-eq-true-iff (eqb try (d .tries)) (member (d .view) from) .0
     (and-eq-true-iff (not (isIdle (d .phase))) (eqb try (d .tries) && member (d .view) from) .0 e .1) .1)
 

@@ -12,14 +12,10 @@ use mir.Val.{boolByte}
 use Rattle.views.specs.declared.Sequence.{Sequence}
 use Rattle.views.specs.Row.{viewsOf}
 use Rattle.rules.specs.Sets.{same, none}
-use Rattle.rules.specs.Generators.{noted, oneIf}
+use Rattle.rules.specs.Generators.{noted}
+use Rattle.rules.proofs.Lists.{byte-is, byte-le}
 
 -- ---- a note is made
-
-pub set-map : {A B : Type 0} (f : A → B) (l : List A) (i : ℕ) (x : A) → map f (set l i x) ≡ set (map f l) i (f x)
-set-map f [] i x = refl
-set-map f (y ∷ l) zero x = refl
-set-map {B = B} f (y ∷ l) (suc i) x = ap (λ (m : List B). f y ∷ m) (set-map f l i x)
 
 pub set-past : {A : Type 0} (l : List A) (i : ℕ) (x : A) → length l ≤ i → l ≡ set l i x
 set-past [] i x h = refl
@@ -27,14 +23,6 @@ set-past (y ∷ l) zero x h = absurd (omega arith)
 set-past {A} (y ∷ l) (suc i) x h = ap (λ (m : List A). y ∷ m) (set-past l i x (omega arith))
 
 -- ---- who agrees
-
-byte-is : (b : Bool) → boolByte b ≡ oneIf b
-byte-is true = refl
-byte-is false = refl
-
-pub byte-le : (b : Bool) → boolByte b ≤ 1
-byte-le true = omega arith
-byte-le false = omega arith
 
 noted-lt : (ls : List (List ℕ)) (q : List ℕ) → noted ls q < 2 ^ length ls
 unfolding noted

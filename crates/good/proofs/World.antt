@@ -17,7 +17,6 @@ use Rattle.rows.proofs.Tables.{table-length, length-zeros}
 use Rattle.rows.proofs.Fields.{cat-holds}
 use Rattle.views.proofs.Truth.{same-truth}
 use Rattle.views.proofs.Among.{same-fact, same-self}
-use Rattle.views.proofs.Sets.{member-not-empty}
 use Rattle.rules.specs.Sets.{_&&_, same, those, member, allHold}
 use Rattle.rules.specs.State.{Generator, Transfer, Relay, Place, World, noRelay, noDesk, free}
 use Rattle.rules.specs.declared.Desk.{Desk}
@@ -27,8 +26,8 @@ use Rattle.rules.specs.WellFormed.{isView, isPair, implies, sameBool, goodGener
 use Rattle.rules.specs.Image.{headBytes, generatorBytes, transferBytes, relayBytes, deskBytes, placeBytes, image, generatorAt, transferAt, filledGenerator, filledTransfer, relayAt, deskAt, rowAt, placeIn, worldAt, goodBytes}
 use Rattle.rules.proofs.Hold.{hold-facts, hold-tests}
 use Rattle.rules.proofs.ImageWidths.{length-head, length-generator, length-transfer, length-relay, length-desk, length-place, length-image, world-widths}
-use Rattle.rules.proofs.ImageFits.{GeneratorFits, TransferFits, generator-fits, transfer-fits, no-generator, no-transfer}
-use Rattle.rules.proofs.ImageRows.{generator-back, transfer-back, holds-head, holds-generators, holds-transfers}
+use Rattle.rules.proofs.ImageFits.{GeneratorFits, TransferFits, generator-fits, transfer-fits, generator-filled, transfer-filled, no-generator, no-transfer}
+use Rattle.rules.proofs.ImageRows.{unfilled-generator, unfilled-transfer, generator-back, transfer-back, holds-head, holds-generators, holds-transfers}
 use Rattle.rules.proofs.ImageRead.{holds-desk, holds-place, holds-relay}
 use Rattle.rules.proofs.ImageZeros.{generator-zeros, transfer-zeros}
 use Rattle.state.specs.declared.Head.{Head}
@@ -41,22 +40,6 @@ use Rattle.good.proofs.Held.{and-assoc, from-tab, all-tab, held-true, h
 use Rattle.good.proofs.Rows.{rows-same}
 
 -- ---- a relay's tables
-
-generator-filled : (s : ℕ) (g : Generator) → goodGenerator s g ≡ true → filledGenerator g ≡ true
-unfolding goodGenerator
-generator-filled s g e = rw (ne-eqb (g .view) 0 (member-not-empty (g .view) s (hold-facts _ e .1 .0)))
-
-transfer-filled : (s : ℕ) (t : Transfer) → goodTransfer s t ≡ true → filledTransfer t ≡ true
-unfolding goodTransfer
-transfer-filled s t e = rw (ne-eqb (t .new) 0 (member-not-empty (t .new) s (hold-facts _ e .0)))
-
-unfilled-generator : filledGenerator (fresh 0) ≡ false
-unfolding fresh
-unfilled-generator = refl
-
-unfilled-transfer : filledTransfer (freshTransfer 0 0) ≡ false
-unfolding freshTransfer
-unfilled-transfer = refl
 
 module _ (l : List ℕ) (s o : ℕ) where
   generators-same : o + 4736 ≤ length l → let gs = those filledGenerator (tab 8 (λ k. generatorAt l (o + k * 592))) in

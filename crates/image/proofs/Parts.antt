@@ -1,10 +1,13 @@
 -- What the parts that the code reads and writes are of a relay and of a place. Assumes nothing.
 use mathlib.Core.Path.{_≡_, refl, sym, ap, _∙_}
-use mathlib.Core.List.{List, []}
+use mathlib.Core.List.{List, [], map}
 use Prim.Native.Nat.{ℕ, _+_, _*_, _≤_}
 use lib.Dec.{leb}
+use lib.ListN.{List·getD-map, getD}
 use borrow.Author.Tests.{le-leb}
 use Rattle.rows.specs.Bytes.{tab}
+use Rattle.views.specs.declared.Sequence.{Sequence}
+use Rattle.views.specs.Row.{viewsOf}
 use Rattle.rules.specs.Sets.{if_then_else_, _&&_, those}
 use Rattle.rules.specs.State.{Generator, Transfer, free, waiting}
 use Rattle.rules.specs.Messages as rules
@@ -28,6 +31,12 @@ relay-parts l i = refl
 pub head-alone : (h : Head) (gs : List Generator) (ts : List Transfer) → headBytes (relayOf h gs ts) ≡ headBytes (relayOf h [] [])
 unfolding headBytes relayOf
 head-alone h gs ts = refl
+
+-- ---- a note of the code's eight, as it is meant
+
+pub note-at : (qs : List Sequence) (k : ℕ) → viewsOf (getD qs k (record { views = []; len = 0 })) ≡ getD (map viewsOf qs) k []
+unfolding viewsOf
+note-at qs k = sym (List·getD-map viewsOf qs k (record { views = []; len = 0 }))
 
 -- ---- a place is what its row says
 

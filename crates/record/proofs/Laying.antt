@@ -8,7 +8,7 @@ use native.Mathlib.Numerals.{add-one}
 use native.Mathlib.Omega.{arith}
 use lib.Dec.{leb}
 use lib.ListN.{length, getD, take, drop, set, length-append, length-set}
-use lib.Seq.{drop-nil, drop-cons, set-out, take-take, take-set-le}
+use lib.Seq.{drop-nil, drop-cons, set-out}
 use borrow.Author.Tests.{leb-true, leb-false}
 use Rattle.rows.specs.Bytes.{placed}
 use Rattle.rows.proofs.Laws.{set-placed}
@@ -33,18 +33,6 @@ pub laid-past : (out : List ℕ) (at : ℕ) (b : List ℕ) → length out ≤ at
 unfolding laid
 laid-past out at [] h = refl
 laid-past out at (x ∷ b) h = rw (set-out out at x h) (laid-past out (suc at) b (omega arith))
-
--- what stands before stays
-pub laid-before : (out : List ℕ) (at : ℕ) (b : List ℕ) → take at (laid out at b) ≡ take at out
-unfolding laid
-laid-before out at [] = refl
-laid-before out at (x ∷ b) =
-    let next : List ℕ = set out at x in
-    let less : at ≤ suc at = omega arith in
-    sym (take-take at (suc at) (laid next (suc at) b) less)
-    ∙ ap (take at) (laid-before next (suc at) b)
-    ∙ take-take at (suc at) next less
-    ∙ take-set-le at out at x (omega arith)
 
 laid-cons : (y : ℕ) (out : List ℕ) (at : ℕ) (b : List ℕ) → laid (y ∷ out) (suc at) b ≡ y ∷ laid out at b
 unfolding laid

@@ -1,6 +1,6 @@
 -- Laws of what a part shows, and of the rules at it. Assumes nothing.
 use mathlib.Core.Path.{_≡_, refl, sym, ap, _∙_}
-use mathlib.Core.Bool.{Bool, true, false, not, _&&_, and-eq-true-iff}
+use mathlib.Core.Bool.{Bool, true, false, not, _&&_}
 use mathlib.Core.List.{List, [], _∷_}
 use Prim.Native.Nat.{ℕ, _*_, _%_, _^_, _≤_, _<_}
 use native.Mathlib.Nat.{one-mul}
@@ -9,7 +9,6 @@ use lib.Dec.{eqb}
 use lib.ListN.{length, set}
 use lib.Pow.{shl-exact, pow-add}
 use lib.Seq.{take-all}
-use borrow.Author.Tests.{eqb-true}
 use Rattle.views.specs.declared.Sequence.{Sequence}
 use Rattle.views.specs.Choice.{if_then_else_, those}
 use Rattle.views.specs.Row.{viewsOf, rowOf}
@@ -19,8 +18,9 @@ use Rattle.rules.specs.Sets.{joins, leaves, member, inside, none, same, beyond,
 use Rattle.rules.specs.Stamps.{Pair}
 use Rattle.rules.specs.Messages.{Sending, viewReply, pairReply, ack, Event, Answer, refused, does, quietly}
 use Rattle.rules.specs.State.{Generator, Transfer, Relay, withKnown, withActive}
-use Rattle.rules.specs.Generators.{Turn, fresh, generatorFor, putGenerator, withOwn, proposes, agree, hears, settles, notesConverged, raises, convergedHeard}
+use Rattle.rules.specs.Generators.{Turn, putGenerator, withOwn, proposes, agree, hears, settles, notesConverged, raises, convergedHeard}
 use Rattle.rules.specs.Relays.{isFor, atGenerator, learns, freshTransfer, transferFor, putTransfer, keeps, gathers, passes, onward, enters, tested, takesInstall, sentFirst, relayHears}
+use Rattle.rules.proofs.Transfers.{found-old, found-new}
 use Rattle.state.specs.declared.Transfer as code
 use Rattle.state.specs.Meaning.{asList, transferOf}
 use Rattle.generator.specs.Heard.{mergedInRow, hearsInRow, heardInRow}
@@ -84,11 +84,6 @@ high-shl s h = shl-exact {a = 256} 9 s 16 (omega arith) (omega arith) ∙ sym (p
 
 -- ---- the rules at a generator and at a transfer leave its views
 
-pub generator-view : (v : ℕ) (gs : List Generator) → generatorFor v gs .view ≡ v
-unfolding generatorFor fresh
-generator-view v [] = refl
-generator-view v (g ∷ gs) = cases (λ (h : Generator). h .view ≡ v) (eqb (g .view) v) (λ e. eqb-true _ _ e) (λ e. generator-view v gs)
-
 -- a turn of the generator for v
 pub record For (v : ℕ) (t : Turn) : Type 0 where
   pub view : t .next .view ≡ v
@@ -109,19 +104,11 @@ pub converged-view : (g : Generator) (from : ℕ) (q : List ℕ) → For (g .vie
 unfolding convergedHeard notesConverged raises
 converged-view g from q = cases (For (g .view)) (agree (g .view) (set (g .convergences) from q) q && not (same q (g .raised))) (λ e. record { view = refl }) (λ e. record { view = refl })
 
-pub transfer-pair : (o w : ℕ) (ts : List Transfer) → (transferFor o w ts .old ≡ o) × (transferFor o w ts .new ≡ w)
-unfolding transferFor freshTransfer
-transfer-pair o w [] = (refl, refl)
-transfer-pair o w (t ∷ ts) =
-    cases (λ (u : Transfer). (u .old ≡ o) × (u .new ≡ w)) (isFor o w t)
-    (λ e. let b = and-eq-true-iff (eqb (t .old) o) (eqb (t .new) w) .0 e in (eqb-true _ _ (b .0), eqb-true _ _ (b .1)))
-    (λ e. transfer-pair o w ts)
-
 -- what is kept in a transfer, or gathered in it, leaves its pair
 module _ (r t : code.Transfer) (o w : ℕ) (ts : List Transfer) (found : transferOf t ≡ transferFor o w ts) where
   same-pair : r .old ≡ t .old → r .new ≡ t .new → (r .old ≡ o) × (r .new ≡ w)
   unfolding transferOf
-  same-pair e f = (e ∙ ap (λ (u : Transfer). u .old) found ∙ transfer-pair o w ts .0, f ∙ ap (λ (u : Transfer). u .new) found ∙ transfer-pair o w ts .1)
+  same-pair e f = (e ∙ ap (λ (u : Transfer). u .old) found ∙ found-old o w ts, f ∙ ap (λ (u : Transfer). u .new) found ∙ found-new o w ts)
 
   pub kept-pair : (q : List ℕ) → transferOf r ≡ keeps (transferOf t) q → (r .old ≡ o) × (r .new ≡ w)
   unfolding transferOf keeps

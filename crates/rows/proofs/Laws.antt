@@ -189,22 +189,6 @@ holds-same l a b o e h k = part a h ∙ ap (λ (n : ℕ). take n (drop o l)) e �
     part : (c : List ℕ) → Holds l o c → c ≡ take (length c) (drop o l)
     part c h = sym (take-at c (h .post) (length c) refl) ∙ ap (take (length c)) (sym (drop-at (h .pre) (c ++ h .post) o (h .long)) ∙ ap (drop o) (sym (h .whole)))
 
--- what is placed is held, and placing what is held changes nothing
-pub placed-holds : (l b : List ℕ) (o : ℕ) → o + length b ≤ length l → Holds (placed l o b) o b
-unfolding splice
-placed-holds l b o h =
-    record { pre = take o l; post = drop (o + length b) l; long = length-take-le o l (omega arith); whole = placed-fits l b o h }
-
-pub placed-held : (l b : List ℕ) (o : ℕ) → Holds l o b → placed l o b ≡ l
-placed-held l b o h = by-room (λ t. t ≡ l) l b o (λ k. same) (λ k. refl)
-  where
-    same : splice l o b ≡ l
-    same =
-        ap (λ (t : List ℕ). splice t o b) (h .whole)
-        ∙ splice-at (h .pre) (b ++ h .post) b o (h .long)
-        ∙ ap (λ (t : List ℕ). h .pre ++ (b ++ t)) (drop-at b (h .post) (length b) refl)
-        ∙ sym (h .whole)
-
 pub holds-byte : (l : List ℕ) (o x : ℕ) (r : List ℕ) → Holds l o (x ∷ r) → getD l o 0 ≡ x
 holds-byte l o x r h = rw (h .whole) (getD-at (h .pre) x (r ++ h .post) 0 o (h .long))
 

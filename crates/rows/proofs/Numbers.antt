@@ -99,11 +99,6 @@ fields-next ws xs i h = rw (drop-cons ws i 0 h, fieldsOf, getD-drop i xs 0 0, dr
 -- ---- from bytes
 
 module _ (l : List ℕ) (o : ℕ) (bytes : Bytes l) where
-  pub number-small : (n : ℕ) → numberAt n l o < 256 ^ n
-  unfolding numberAt
-  number-small zero = omega (arith, pow-zero 256)
-  number-small (suc n) = rw (pow-suc 256 n) (omega (arith, number-small n, bytes .each (o + n)))
-
   pub number-held : (n : ℕ) → o + n ≤ length l → Holds l o (bytesOf n (numberAt n l o))
   unfolding bytesOf numberAt
   number-held zero h = holds-nil l o (omega arith)

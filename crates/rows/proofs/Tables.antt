@@ -1,14 +1,13 @@
 -- Laws of a table: n rows of one width w, encoded by any enc.
 -- Assumes nothing.
-use mathlib.Core.Path.{_≡_, refl, sym, ap, _∙_}
+use mathlib.Core.Path.{_≡_, refl, sym, _∙_}
 use mathlib.Core.List.{List, [], _∷_, append-nil}
 use Prim.Native.Nat.{ℕ, _+_, _*_, _≤_, _<_}
-use native.Mathlib.Nat.{add-zero}
 use native.Mathlib.Omega.{arith}
-use lib.ListN.{length, getD, set, drop-of-length-le}
-use lib.Seq.{ext-getD, getD-set-same, getD-set-other}
+use lib.ListN.{length, getD, drop-of-length-le}
+use lib.Seq.{ext-getD}
 use Rattle.rows.specs.Bytes.{splice, table, tab, zeros}
-use Rattle.rows.proofs.Laws.{run-inside, run-write, length-run, Holds, holds-self, holds-same, holds-run, tab-ext, tab-getD, getD-tab}
+use Rattle.rows.proofs.Laws.{run-inside, length-run, Holds, holds-self, holds-same, holds-run, tab-ext, tab-getD, getD-tab}
 use Rattle.rows.proofs.Held.{run-held}
 
 pub splice-whole : (b v : List ℕ) → length v ≡ length b → splice b 0 v ≡ v
@@ -27,22 +26,6 @@ module _ {A : Type 0} (enc : A → List ℕ) (d : A) (w n : ℕ) (wide : (x : A)
 
   pub table-holds : (l : List ℕ) (o i : ℕ) (xs : List A) → i < n → Holds l o (table enc d n xs) → Holds l (o + i * w) (enc (getD xs i d))
   table-holds l o i xs hi h = holds-run w n i o l (λ k. enc (getD xs k d)) (λ k. wide (getD xs k d)) hi h
-
-  -- v written at o inside row i, which makes it y's row
-  pub table-write : (xs : List A) (i o : ℕ) (v : List ℕ) (y : A) → length xs ≡ n → i < n → o + length v ≤ w
-      → splice (enc (getD xs i d)) o v ≡ enc y
-      → splice (table enc d n xs) (i * w + o) v ≡ table enc d n (set xs i y)
-  table-write xs i o v y lx hi ho e =
-      run-write w n i o (λ k. enc (getD xs k d)) (λ k. enc (getD (set xs i y) k d)) v (λ k. wide (getD xs k d)) hi ho
-      (ap enc (getD-set-same xs i y d (omega arith)) ∙ sym e)
-      (λ k p q. ap enc (getD-set-other xs i k y d q))
-
-  -- y's row written over row i
-  pub table-set : (xs : List A) (i : ℕ) (y : A) → length xs ≡ n → i < n → splice (table enc d n xs) (i * w) (enc y) ≡ table enc d n (set xs i y)
-  table-set xs i y lx hi =
-      let ly = wide y in
-      let lo = wide (getD xs i d) in
-      rw (← add-zero (i * w)) (table-write xs i 0 (enc y) y lx hi (omega arith) (splice-whole (enc (getD xs i d)) (enc y) (omega arith)))
 
   -- ---- a row is read by dec, at any place
 

@@ -91,10 +91,6 @@ module _ {A : Type 0} (f : A → Bool) where
 -- ---- none stands twice
 
 module _ {A : Type 0} (differ : A → A → Bool) where
-  pub distinct-none : distinct differ [] ≡ true
-  unfolding distinct
-  distinct-none = refl
-
   pub distinct-parts : (x : A) (xs : List A) → distinct differ (x ∷ xs) ≡ true → (all (differ x) xs ≡ true) × (distinct differ xs ≡ true)
   unfolding distinct
   distinct-parts x xs e = and-eq-true-iff (all (differ x) xs) (distinct differ xs) .0 e

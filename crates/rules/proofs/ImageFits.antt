@@ -155,7 +155,7 @@ generator-fits s g e =
       convergences = notes-fit v (g .convergences) small update (h .1 .1 .1 .1 .1 .1 .1 .0);
     }
 
-generator-filled : (s : ℕ) (g : Generator) → goodGenerator s g ≡ true → filledGenerator g ≡ true
+pub generator-filled : (s : ℕ) (g : Generator) → goodGenerator s g ≡ true → filledGenerator g ≡ true
 unfolding goodGenerator
 generator-filled s g e = rw (ne-eqb (g .view) 0 (member-not-empty (g .view) s (hold-facts _ e .1 .0)))
 
@@ -204,7 +204,7 @@ transfer-fits s t e =
     go [] m p = no-views
     go (w ∷ q) m p = plan-fits (t .old) (t .new) (w ∷ q) m p
 
-transfer-filled : (s : ℕ) (t : Transfer) → goodTransfer s t ≡ true → filledTransfer t ≡ true
+pub transfer-filled : (s : ℕ) (t : Transfer) → goodTransfer s t ≡ true → filledTransfer t ≡ true
 unfolding goodTransfer
 transfer-filled s t e = rw (ne-eqb (t .new) 0 (member-not-empty (t .new) s (hold-facts _ e .0)))
 

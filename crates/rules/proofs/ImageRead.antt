@@ -12,7 +12,7 @@ use Rattle.rules.specs.Generators.{fresh}
 use Rattle.rules.specs.Relays.{freshTransfer}
 use Rattle.rules.specs.Image.{generatorBytes, transferBytes, relayBytes, deskBytes, placeBytes, image, generatorAt, transferAt, relayAt, deskAt}
 use Rattle.rules.proofs.ImageWidths.{length-generator, length-transfer, length-relay, length-desk, length-place}
-use Rattle.rules.proofs.ImageRows.{generator-back, transfer-back, desk-back, holds-generators, holds-transfers}
+use Rattle.rules.proofs.ImageRows.{generator-back, transfer-back, holds-generators, holds-transfers}
 use Rattle.rules.proofs.ImageWorld.{WorldFits, holds-relays, holds-desks, holds-places}
 
 -- ---- in a relay's region, wherever it stands
@@ -46,9 +46,6 @@ module _ (w : World) (s : ℕ) (hs : s < 8) where
 -- ---- and so what is read there, of a world that fits
 
 module _ (w : World) (f : WorldFits w) where
-  pub read-desk : (n : ℕ) → n < 4 → deskAt (image w) (43520 + n * 64) ≡ state.deskAt w n
-  read-desk n h = desk-back (image w) (43520 + n * 64) (state.deskAt w n) (f .desk n) (holds-desk w n h)
-
   pub read-generator : (s i : ℕ) → s < 8 → i < 8 → generatorAt (image w) (s * 5440 + 64 + i * 592) ≡ getD (state.relayAt w s .generators) i (fresh 0)
   read-generator s i hs hi = generator-back (image w) (s * 5440 + 64 + i * 592) _ (f .relay s .generators .each i) (image-generator w s hs i hi)
 

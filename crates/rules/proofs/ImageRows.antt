@@ -21,6 +21,7 @@ use Rattle.rules.specs.State.{Generator, Transfer, Relay, Phase, Idle, R
 use Rattle.rules.specs.Generators.{fresh}
 use Rattle.rules.specs.Relays.{freshTransfer}
 use Rattle.rules.specs.Image.{flag, byte, sequenceBytes, pairBytes, headBytes, generatorBytes, transferBytes, relayBytes, phaseNumber, deskBytes, Row, bodyRow, placeRow, rowBytes, placeBytes, flagAt, sequenceAt, pairAt, generatorAt, transferAt, filledGenerator, filledTransfer, relayAt, phaseOf, deskAt, rowAt, bodyIn, placeIn, pairFields, headFields, generatorFields, transferFields, relayFields, deskFields, rowFields}
+use Rattle.rules.proofs.Lists.{those-append}
 use Rattle.rules.proofs.ImageWidths.{length-sequence, pairWidths, pair-widths, headWidths, head-widths, generatorWidths, generator-widths, length-generator, transferWidths, transfer-widths, length-transfer, relayWidths, relay-widths, deskWidths, desk-widths, rowWidths, row-widths}
 use Rattle.rules.proofs.ImageFits.{SequenceFits, PairFits, NotesFit, GeneratorFits, TransferFits, RowsFit, RelayFits, DeskFits, RowFits}
 
@@ -106,15 +107,6 @@ transfer-back l o t f h =
 -- ---- a table of which the filled rows count
 
 module _ {A : Type 0} (filled : A → Bool) where
-  those-append : (a b : List A) → those filled (a ++ b) ≡ those filled a ++ those filled b
-  unfolding those
-  those-append [] b = refl
-  those-append (x ∷ a) b = rw (those-append a b) (go (filled x))
-    where
-      go : (t : Bool) → (if t then x ∷ (those filled a ++ those filled b) else those filled a ++ those filled b) ≡ (if t then x ∷ those filled a else those filled a) ++ those filled b
-      go true = refl
-      go false = refl
-
   those-one : (x : A) (t : Bool) → filled x ≡ t → those filled (x ∷ []) ≡ if t then x ∷ [] else []
   unfolding those
   those-one x t e = rw e
@@ -124,7 +116,7 @@ module _ {A : Type 0} (filled : A → Bool) where
     unfolding tab those
     those-tab zero = refl
     those-tab (suc n) =
-        those-append (tab n (λ k. getD xs k d)) (getD xs n d ∷ []) ∙ rw (those-tab n) (go (leb (length xs) n) refl)
+        those-append filled (tab n (λ k. getD xs k d)) (getD xs n d ∷ []) ∙ rw (those-tab n) (go (leb (length xs) n) refl)
       where
         go : (t : Bool) → leb (length xs) n ≡ t → take n xs ++ those filled (getD xs n d ∷ []) ≡ take (suc n) xs
         go true e =
@@ -145,11 +137,11 @@ module _ {A : Type 0} (filled : A → Bool) where
 
 -- ---- a relay
 
-unfilled-generator : filledGenerator (fresh 0) ≡ false
+pub unfilled-generator : filledGenerator (fresh 0) ≡ false
 unfolding fresh
 unfilled-generator = refl
 
-unfilled-transfer : filledTransfer (freshTransfer 0 0) ≡ false
+pub unfilled-transfer : filledTransfer (freshTransfer 0 0) ≡ false
 unfolding freshTransfer
 unfilled-transfer = refl
 

@@ -37,7 +37,7 @@ pub record WorldFits (w : World) : Type 0 where
   pub desk : (d : ℕ) → DeskFits (getD (w .desks) d noDesk)
   pub place : (p : ℕ) → RowFits (placeRow (getD (w .places) p free))
 
-no-relay : (s : ℕ) → goodRelay s noRelay ≡ true
+pub no-relay : (s : ℕ) → goodRelay s noRelay ≡ true
 unfolding goodRelay goodGenerators goodTransfers isPair allHold all distinct
 no-relay s = refl
 
@@ -45,7 +45,7 @@ no-desk : goodDesk noDesk ≡ true
 unfolding goodDesk goodPhase allHold
 no-desk = refl
 
-no-place : goodPlace free ≡ true
+pub no-place : goodPlace free ≡ true
 unfolding goodPlace
 no-place = refl
 

@@ -13,7 +13,7 @@ use Rattle.rules.specs.Generators.{fresh}
 use Rattle.rules.specs.Relays.{freshTransfer}
 use Rattle.rules.specs.Image.{headBytes, generatorBytes, transferBytes, relayBytes, deskBytes, placeBytes, image, relayFields, worldTables}
 use Rattle.rules.proofs.ImageWidths.{length-head, length-generator, length-transfer, relay-widths, length-relay, length-desk, length-place, world-widths}
-use Rattle.rules.proofs.ImageChange.{Changed, changed-set, table-change}
+use Rattle.rows.proofs.Change.{Changed, changed-set, table-write}
 use Rattle.rules.proofs.ImageWorld.{Shaped}
 
 -- a whole row written over another
@@ -42,7 +42,7 @@ module _ (r : Relay) where
   unfolding relayBytes headBytes withGenerators
   write-generator gs i o v g c hi ho e =
       cat-write (relay-widths r) 1 (i * 592 + o) v (omega arith) (omega arith)
-      ∙ ap (λ (t : List ℕ). cat (set (relayFields r) 1 t)) (table-change generatorBytes (fresh 0) 592 8 length-generator (r .generators) gs i o v g c hi ho e)
+      ∙ ap (λ (t : List ℕ). cat (set (relayFields r) 1 t)) (table-write generatorBytes (fresh 0) 592 8 length-generator (r .generators) gs i o v g c hi ho e)
 
   pub put-generator : (gs : List Generator) (i : ℕ) (g : Generator) → Changed (fresh 0) (r .generators) i g gs → i < 8
       → splice (relayBytes r) (64 + i * 592) (generatorBytes g) ≡ relayBytes (withGenerators r gs)
@@ -57,7 +57,7 @@ module _ (r : Relay) where
   unfolding relayBytes headBytes withTransfers
   write-transfer ts i o v t c hi ho e =
       cat-write (relay-widths r) 2 (i * 80 + o) v (omega arith) (omega arith)
-      ∙ ap (λ (b : List ℕ). cat (set (relayFields r) 2 b)) (table-change transferBytes (freshTransfer 0 0) 80 8 length-transfer (r .transfers) ts i o v t c hi ho e)
+      ∙ ap (λ (b : List ℕ). cat (set (relayFields r) 2 b)) (table-write transferBytes (freshTransfer 0 0) 80 8 length-transfer (r .transfers) ts i o v t c hi ho e)
 
   pub put-transfer : (ts : List Transfer) (i : ℕ) (t : Transfer) → Changed (freshTransfer 0 0) (r .transfers) i t ts → i < 8
       → splice (relayBytes r) (4800 + i * 80) (transferBytes t) ≡ relayBytes (withTransfers r ts)
@@ -82,7 +82,7 @@ module _ (w : World) where
   unfolding image
   write-place ps p o v x c hp ho e =
       cat-write (world-widths w) 2 (p * 80 + o) v (omega arith) (omega arith)
-      ∙ ap (λ (t : List ℕ). cat (set (worldTables w) 2 t)) (table-change placeBytes free 80 256 length-place (w .places) ps p o v x c hp ho e)
+      ∙ ap (λ (t : List ℕ). cat (set (worldTables w) 2 t)) (table-write placeBytes free 80 256 length-place (w .places) ps p o v x c hp ho e)
 
   pub put-place : (ps : List Place) (p : ℕ) (x : Place) → Changed free (w .places) p x ps → p < 256
       → splice (image w) (43776 + p * 80) (placeBytes x) ≡ image (withPlaces w ps)
@@ -99,7 +99,7 @@ module _ (w : World) (shaped : Shaped w) where
       ap (λ (n : ℕ). splice (cat (worldTables w)) n v) (sym (zero-add (s * 5440 + o)))
       ∙ cat-write (world-widths w) 0 (s * 5440 + o) v (omega arith) (omega arith)
       ∙ ap (λ (t : List ℕ). cat (set (worldTables w) 0 t))
-      (table-change relayBytes noRelay 5440 8 length-relay (w .relays) (set (w .relays) s r) s o v r (changed-set (w .relays) s r (omega arith)) hs ho e)
+      (table-write relayBytes noRelay 5440 8 length-relay (w .relays) (set (w .relays) s r) s o v r (changed-set (w .relays) s r (omega arith)) hs ho e)
 
   pub write-desk : (n o : ℕ) (v : List ℕ) (d : Desk) → n < 4 → o + length v ≤ 64 → splice (deskBytes (deskAt w n)) o v ≡ deskBytes d
       → splice (image w) (43520 + (n * 64 + o)) v ≡ image (withDesk w n d)
@@ -108,7 +108,7 @@ module _ (w : World) (shaped : Shaped w) where
       let long = shaped .desks in
       cat-write (world-widths w) 1 (n * 64 + o) v (omega arith) (omega arith)
       ∙ ap (λ (t : List ℕ). cat (set (worldTables w) 1 t))
-      (table-change deskBytes noDesk 64 4 length-desk (w .desks) (set (w .desks) n d) n o v d (changed-set (w .desks) n d (omega arith)) hn ho e)
+      (table-write deskBytes noDesk 64 4 length-desk (w .desks) (set (w .desks) n d) n o v d (changed-set (w .desks) n d (omega arith)) hn ho e)
 
   pub put-desk : (n : ℕ) (d : Desk) → n < 4 → splice (image w) (43520 + n * 64) (deskBytes d) ≡ image (withDesk w n d)
   put-desk n d hn = rw (← add-zero (n * 64)) (write-desk n 0 (deskBytes d) d hn (omega (arith, length-desk d)) (over deskBytes length-desk (deskAt w n) d))

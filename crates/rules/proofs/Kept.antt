@@ -93,7 +93,7 @@ place-good m (waiting x ∷ ps) h a =
 abbrev sound : Message → Bool
 sound m = goodPlace (waiting m)
 
-places-length : (ms : List Message) (ps : List Place) → length (placeAll ms ps) ≡ length ps
+pub places-length : (ms : List Message) (ps : List Place) → length (placeAll ms ps) ≡ length ps
 unfolding placeAll
 places-length [] ps = refl
 places-length (m ∷ ms) ps = places-length ms (place m ps) ∙ place-length m ps

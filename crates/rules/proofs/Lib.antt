@@ -4,6 +4,7 @@ pub mod Table
 pub mod Starts
 pub mod Counts
 pub mod Hold
+pub mod Lists
 pub mod Sends
 pub mod Generators
 pub mod Relays
@@ -19,8 +20,6 @@ pub mod ImageWidths
 pub mod ImageFits
 pub mod ImageRows
 pub mod ImageWorld
-pub mod ImageChange
 pub mod ImageWrite
 pub mod ImageRead
 pub mod ImageZeros
-pub mod ImageBytes

@@ -1,17 +1,15 @@
 -- JOIN, LEAVE, TIMER, Request, View, Get, Put keep a relay good, and send well; so does whatever a relay hears. Assumes nothing.
 use mathlib.Core.Path.{_≡_, refl, ap, _∙_}
-use mathlib.Core.Logic.{⊎-elim}
 use mathlib.Core.Bool.{true, not, and-eq-true-iff}
 use mathlib.Core.List.{[], _∷_}
-use Prim.Native.Nat.{ℕ, _+_, _^_, _<_}
+use Prim.Native.Nat.{ℕ, _^_, _<_}
 use native.Mathlib.Omega.{arith}
 use lib.Bits.{or-lt}
 use lib.Dec.{eqb, ltb}
-use lib.Pow.{pow-lt}
-use borrow.Author.Tests.{ltb-true, eqb-true, not-true, not-false, lt-ltb, eq-eqb}
+use borrow.Author.Tests.{ltb-true, not-true, not-false, lt-ltb, eq-eqb}
 use Rattle.views.proofs.Nested.{above-test, above-none, above-more}
 use Rattle.views.proofs.Sets.{inside-or, within-test, member-bit}
-use Rattle.views.proofs.Truth.{contrary, either-true, true-left, true-right, neither-true, cases}
+use Rattle.views.proofs.Truth.{contrary, true-left, true-right, neither-true, cases}
 use Rattle.rules.specs.Sets.{_&&_, _||_, bit, within, member, inside, joins, leaves, joined}
 use Rattle.rules.specs.Stamps.{Pair}
 use Rattle.rules.specs.Messages.{Body, request, view, proposal, converged, install, state, get, put, viewReply, pairReply, ack, Message, toMembers, toOne, nothing}
@@ -22,6 +20,7 @@ use Rattle.rules.proofs.Hold.{hold-facts, hold-tests}
 use Rattle.rules.proofs.Sends.{SendWell, sends-none, sends-one, from-member, to-member, only-one}
 use Rattle.rules.proofs.Relays.{Rel, GoodAnswer, refuses-well, does-well, proposal-kept, converged-kept, propose-kept}
 use Rattle.rules.proofs.Transfers.{greatest-pair, state-kept, install-kept}
+use Rattle.rules.proofs.ImageFits.{update-small}
 
 module _ (s : ℕ) (r : Relay) (h : Rel s r) (small : s < 8) where
   -- ---- JOIN, LEAVE
@@ -122,17 +121,12 @@ module _ (s : ℕ) (r : Relay) (h : Rel s r) (small : s < 8) where
 
 -- ---- whatever a relay hears
 
-update-range : (s u c : ℕ) → s < 8 → goodRequest s u c ≡ true → u < 65536
-update-range s u c l g =
-    ⊎-elim (λ e. rw (eqb-true u (joins s) (and-eq-true-iff (eqb u (joins s)) (not (within u c)) .0 e .0)) (pow-lt {i = s} {j = 16} (omega arith)))
-    (λ e. rw (eqb-true u (leaves s) (and-eq-true-iff (eqb u (leaves s)) (member c s) .0 e .0)) (pow-lt {i = 8 + s} {j = 16} (omega arith))) (either-true _ _ g)
-
 pub hears-kept : (s : ℕ) (r : Relay) (from : ℕ) (b : Body) → Rel s r → s < 8 → goodBody (record { from = from; to = s; body = b }) b ≡ true → GoodAnswer s (relayHears s r from b)
 unfolding relayHears goodBody
 hears-kept s r from (request u c) h l g =
     let k = hold-facts _ g in
     let f : from < 8 = ltb-true _ _ (k .0) in
-    request-kept s r h l from u c f (update-range from u c f (k .1 .1 .0))
+    request-kept s r h l from u c f (update-small from u c f (k .1 .1 .0))
 hears-kept s r from (view v) h l g =
     let k = hold-facts _ g in
     does-well s (learns r v) [] nothing (learns-good s r h l v (ltb-true _ _ (k .1 .1 .0))) (sends-none s)

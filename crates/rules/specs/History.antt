@@ -1,6 +1,6 @@
 -- What a run did that everybody can see: the operations of the desks, and the views that opened. Assumes nothing.
 use mathlib.Core.List.{List, [], _∷_, _++_}
-use Prim.Native.Nat.{ℕ, suc, _+_}
+use Prim.Native.Nat.{ℕ, suc}
 use lib.ListN.{getD, set, replicate}
 use Rattle.rules.specs.Stamps.{Pair}
 use Rattle.rules.specs.Messages.{Event, nothing, opened, readDone, writeDone}

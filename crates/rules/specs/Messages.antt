@@ -1,6 +1,6 @@
 -- The messages, what is sent, and what a rule answers. Assumes nothing.
 use mathlib.Core.List.{List, [], _∷_, _++_, map}
-use Prim.Native.Nat.{ℕ, _+_, _^_}
+use Prim.Native.Nat.{ℕ, _^_}
 use Rattle.rules.specs.Sets.{bit, those, members, joined}
 use Rattle.rules.specs.Stamps.{Pair}
 

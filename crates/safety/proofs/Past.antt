@@ -14,10 +14,6 @@ pub past-later : {e : Entry} {t l : Log} → Past t l → Past (e ∷ t) l
 past-later now = back now
 past-later (back p) = back (past-later p)
 
-pub past-nil : (t : Log) → Past t []
-past-nil [] = now
-past-nil (e ∷ t) = past-later (past-nil t)
-
 pub past-trans : {t l m : Log} → Past t l → Past l m → Past t m
 past-trans p now = p
 past-trans p (back q) = back (past-trans p q)

@@ -2,7 +2,7 @@
 -- Assumes nothing.
 use Prim.Native.Nat.{ℕ, _<_}
 use mathlib.Core.Path.{_≡_, refl, sym, ap, _∙_}
-use mathlib.Core.Bool.{Bool, true, false, cond, true≢false, false≢true}
+use mathlib.Core.Bool.{Bool, true, false, cond, false≢true}
 use mathlib.Core.Logic.{_⊎_, inl, inr, ⊎-elim}
 use native.Mathlib.Omega.{arith}
 use lib.IntN.{ℤ, pos, negsuc, negℤ}
@@ -142,10 +142,6 @@ at-most-both (level e) q = e
 at-most-both (under h) (level e) = sym e
 at-most-both (under h) (under k) = absurd (above-asymmetric h k)
 
-pub at-most-not-above : {a b : Stamp} → AtMost a b → Above a b → ⊥
-at-most-not-above (level e) k = above-differs k e
-at-most-not-above (under h) k = above-asymmetric h k
-
 -- the order is total
 pub above-or-at-most : (a b : Stamp) → Above a b ⊎ AtMost a b
 above-or-at-most a b = go (ordered a b)
@@ -173,9 +169,6 @@ pub at-most-not-greater : {a b : Stamp} → AtMost a b → greaterOf a b ≡ fal
 unfolding greaterOf
 at-most-not-greater (level e) = rw (equal-zero e)
 at-most-not-greater (under h) = rw (below-minus h)
-
-pub not-greater-at-most : (a b : Stamp) → greaterOf a b ≡ false → AtMost a b
-not-greater-at-most a b e = ⊎-elim (λ h. absurd (true≢false (sym (above-greater h) ∙ e))) (λ h. h) (above-or-at-most a b)
 
 pub same-equal : (a b : Stamp) → sameOf a b ≡ true → a ≡ b
 unfolding sameOf
@@ -212,13 +205,6 @@ module _ (held new : Pair) where
   pub greatest-new : AtMost (new .stamp) (greatestOf held new .stamp)
   greatest-new =
       ⊎-elim (λ h. rw (greatest-takes h) at-most-self) (λ h. rw (greatest-stays h) h) (above-or-at-most (new .stamp) (held .stamp))
-
-  -- what a fold keeps: a bound from below on either, and a bound from above on both
-  pub greatest-over : {x : Stamp} → AtMost x (held .stamp) ⊎ AtMost x (new .stamp) → AtMost x (greatestOf held new .stamp)
-  greatest-over = ⊎-elim (λ h. at-most-transitive h greatest-held) (λ h. at-most-transitive h greatest-new)
-
-  pub greatest-under : {x : Stamp} → AtMost (held .stamp) x → AtMost (new .stamp) x → AtMost (greatestOf held new .stamp) x
-  greatest-under h k = ⊎-elim (λ e. rw e h) (λ e. rw e k) greatest-is
 
 -- ---- the code's tests of an answer, which go by its eight bits
 

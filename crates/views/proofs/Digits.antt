@@ -3,18 +3,18 @@
 -- Each law goes digit by digit: `bin-ind` over the first set, the step equations of `lib.Bits`, and `omega`. Assumes nothing.
 use mathlib.Core.Path.{_≡_, refl, sym, ap, _∙_}
 use mathlib.Core.Logic.{_≢_, ⊎-elim}
-use mathlib.Core.Bool.{true, false, not, _&&_, _||_, and-eq-true-iff}
-use Prim.Native.Nat.{ℕ, zero, suc, _+_, _-_, _/_, _%_, _^_, _<_, min, max}
+use mathlib.Core.Bool.{true, false, _&&_, _||_, and-eq-true-iff}
+use Prim.Native.Nat.{ℕ, zero, suc, _+_, _/_, _%_, _^_, _<_, min, max}
 use native.Mathlib.Omega.{arith}
 use native.Mathlib.Decide.{ℕ-discrete, decLt}
 use native.Mathlib.Nat.{div-eq-of-lt, div-self, zero-div, mul-comm, div-div-eq-div-mul, pow-suc}
 use lib.Arith.{bin-ind}
 use lib.Dec.{eqb}
-use lib.Bits.{bitAnd, bitOr, and-step, or-step, and-shr, or-shr, and-le-l}
-use lib.Pow.{pow-pos, pow-mono, shr-shr, field, mod-mod-pow}
+use lib.Bits.{bitAnd, bitOr, and-step, or-step, and-shr, or-shr}
+use lib.Pow.{pow-pos, pow-mono, shr-shr}
 use borrow.Author.Tests.{eqb-true, eqb-false, eq-eqb, ne-eqb}
 use Rattle.views.specs.View.{bitOf}
-use Rattle.views.proofs.Truth.{decided, never-true, never-false, same-truth, either-true, neither-true}
+use Rattle.views.proofs.Truth.{never-true, never-false, same-truth, either-true, neither-true}
 
 -- ---- a digit of an operation, and the rest
 
@@ -60,13 +60,6 @@ pub digit-or : (i a b : ℕ) → digit i (bitOr a b) ≡ max (digit i a) (digit 
 unfolding digit
 digit-or i a b = rw or-shr (or-low (a / 2 ^ i) (b / 2 ^ i))
 
--- what a has and b lacks
-pub digit-less : (i a b : ℕ) → digit i (a - bitAnd a b) ≡ digit i a - digit i b
-digit-less zero a b = simp digit-first (omega (arith, and-step a b, and-le-l (a / 2) (b / 2)))
-digit-less (suc i) a b =
-    let e : (a - bitAnd a b) / 2 ≡ a / 2 - bitAnd (a / 2) (b / 2) = omega (arith, and-step a b, and-le-l (a / 2) (b / 2)) in
-    simp (digit-suc, e) (digit-less i (a / 2) (b / 2))
-
 -- a right shift by k takes k off the members; the digits past a number's length are 0
 pub digit-shr : (i k a : ℕ) → digit i (a / 2 ^ k) ≡ digit (k + i) a
 unfolding digit
@@ -75,14 +68,6 @@ digit-shr i k a = rw shr-shr
 pub digit-past : (i a : ℕ) → a < 2 ^ i → digit i a ≡ 0
 unfolding digit
 digit-past i a h = rw div-eq-of-lt
-
--- the complement, in a word of k digits: `!a`
-pub digit-not : (i k a : ℕ) → i < k → a < 2 ^ k → digit i ((2 ^ k - 1) - a) ≡ 1 - digit i a
-digit-not i zero a l h = absurd (omega arith)
-digit-not zero (suc k) a l h = simp digit-first (omega (arith, pow-suc 2 k))
-digit-not (suc i) (suc k) a l h =
-    let e : ((2 ^ suc k - 1) - a) / 2 ≡ (2 ^ k - 1) - a / 2 = omega (arith, pow-suc 2 k) in
-    simp (digit-suc, e) (digit-not i k (a / 2) (omega arith) (omega (arith, pow-suc 2 k)))
 
 -- the set of one member: `1 << j`
 pub digit-same : (j : ℕ) → digit j (2 ^ j) ≡ 1
@@ -173,20 +158,3 @@ bit-below k m s h e = go (decLt s k)
     go : Dec (s < k) → s < k
     go (yes l) = l
     go (no l) = absurd (omega (arith, bit-fact m s e, digit-past s m (omega (arith, pow-mono {i = k} {j = s} (omega arith)))))
-
--- the k low digits, the digits from k on, and the complement in k digits, as the code writes them
-pub bit-low : (k s a : ℕ) → s < k → bitOf (a % 2 ^ k) s ≡ bitOf a s
-bit-low k s a h =
-    let i : ℕ = k - s - 1 in
-    let e : k ≡ i + 1 + s = omega arith in
-    let d : a % 2 ^ k / 2 ^ s % 2 ≡ a / 2 ^ s % 2 =
-    ap (λ (n : ℕ). a % 2 ^ n / 2 ^ s % 2) e ∙ ap (λ (n : ℕ). n % 2) (field a (i + 1) s) ∙ mod-mod-pow (a / 2 ^ s) i 1 in
-    ap (λ (n : ℕ). eqb n 1) d
-
-pub bit-shr : (k s a : ℕ) → bitOf (a / 2 ^ k) s ≡ bitOf a (k + s)
-bit-shr k s a = ap (λ (n : ℕ). eqb (n % 2) 1) (shr-shr a k s)
-
-pub bit-not : (k s a : ℕ) → s < k → a < 2 ^ k → bitOf (2 ^ k - 1 - a) s ≡ not (bitOf a s)
-bit-not k s a l h =
-    ⊎-elim (λ e. rw e (clear-test (2 ^ k - 1 - a) s (omega (arith, digit-not s k a l h, bit-fact a s e))))
-    (λ e. rw e (bit-test (2 ^ k - 1 - a) s (omega (arith, digit-not s k a l h, clear-fact a s e)))) (decided (bitOf a s))

@@ -1,22 +1,22 @@
 -- Sequences kept for a view v: the fact `Above` behind the test `aboveOf`, that such a sequence is nested and short, its innermost and outermost view,
 -- and its part beyond a view. Assumes nothing.
-use mathlib.Core.Path.{_≡_, refl, sym, ap, ap₂, _∙_}
+use mathlib.Core.Path.{_≡_, refl}
 use mathlib.Core.Logic.{_≢_, _⊎_, inl, inr, ⊎-elim}
-use mathlib.Core.Bool.{Bool, true, false, _&&_, and-eq-true-iff}
+use mathlib.Core.Bool.{Bool, true, _&&_, and-eq-true-iff}
 use mathlib.Core.List.{List, [], _∷_}
 use Prim.Native.Nat.{ℕ, _+_, _≤_, _<_}
 use native.Mathlib.Numerals.{sub-one}
 use native.Mathlib.Omega.{arith}
 use lib.Dec.{eqb, ltb, lit<}
 use lib.Count.{ones, ones-le}
-use lib.ListN.{length, drop}
+use lib.ListN.{length}
 use borrow.Author.Tests.{eqb-true, ltb-true, lt-ltb}
 use Rattle.views.specs.Choice.{those}
 use Rattle.views.specs.View.{insideOf}
-use Rattle.views.specs.Chain.{some, hasOf, lacksOf, leastOf, mostOf, beyondOf, aboveOf}
+use Rattle.views.specs.Chain.{some, hasOf, leastOf, mostOf, beyondOf, aboveOf}
 use Rattle.views.proofs.Truth.{contrary, either-true, cases}
-use Rattle.views.proofs.Sets.{Within, within-refl, within-trans, within-antisym, Inside, inside-grows, inside-trans, within-inside, inside-empty, inside-fact, inside-test, inside-self}
-use Rattle.views.proofs.Among.{has-first, has-rest, lacks-fact, lacks-test}
+use Rattle.views.proofs.Sets.{Within, within-refl, within-trans, Inside, inside-grows, inside-trans, within-inside, inside-empty, inside-fact, inside-test}
+use Rattle.views.proofs.Among.{has-first, has-rest}
 
 -- each strictly includes the one before it, the first one v
 pub data Above : ℕ → List ℕ → Type 0 where
@@ -89,24 +89,6 @@ least-within above-none x e = absurd (contrary e refl)
 least-within (above-more {w = w} {l = l} i h a) x e =
     ⊎-elim (λ p. rw (eqb-true x w p) (within-refl w)) (λ p. above-has a x p .within) (either-true (eqb x w) (hasOf l x) e)
 
--- two with the same views are equal, whatever they are kept for
-lacks-rest : {w : ℕ} {l : List ℕ} (x : ℕ) (m : List ℕ) → w ≡ x → Above w l → lacksOf (w ∷ l) (x ∷ m) ≡ false → lacksOf l m ≡ false
-unfolding some
-lacks-rest {w} {l} x m e a h =
-    lacks-test l m (λ y p. ⊎-elim (λ q. absurd (above-has a y p .other (e ∙ sym (eqb-true y x q)))) (λ q. q)
-    (either-true (eqb y x) (hasOf m y) (lacks-fact (w ∷ l) (x ∷ m) h y (has-rest y w l p))))
-
-pub above-ext : {v u : ℕ} {a b : List ℕ} → Above v a → Above u b → lacksOf a b ≡ false → lacksOf b a ≡ false → a ≡ b
-unfolding some
-above-ext above-none above-none h k = refl
-above-ext above-none (above-more {w = x} {l = m} i s b) h k = absurd (contrary (lacks-fact (x ∷ m) [] k x (has-first x m)) refl)
-above-ext (above-more {w = w} {l = l} i s a) above-none h k = absurd (contrary (lacks-fact (w ∷ l) [] h w (has-first w l)) refl)
-above-ext (above-more {w = w} {l = l} i s a) (above-more {w = x} {l = m} j t b) h k =
-    let e : w ≡ x =
-    within-antisym (least-within (above-more i s a) x (lacks-fact (x ∷ m) (w ∷ l) k x (has-first x m)))
-    (least-within (above-more j t b) w (lacks-fact (w ∷ l) (x ∷ m) h w (has-first w l))) in
-    ap₂ _∷_ e (above-ext a b (lacks-rest x m e a h) (lacks-rest w l (sym e) b k))
-
 most-cons : (x y : ℕ) (l : List ℕ) → mostOf (x ∷ y ∷ l) ≡ mostOf (y ∷ l)
 most-cons x y l = simp sub-one
 
@@ -148,16 +130,3 @@ unfolding those
 beyond-above w above-none = above-none
 beyond-above w (above-more {w = x} i h a) =
     cases (Above w) (insideOf w x) (λ e. above-more (inside-fact w x e) h (those-above (insideOf w) a)) (λ _. beyond-above w a)
-
-pub beyond-all : {v w : ℕ} {l : List ℕ} → Within w v → Above v l → beyondOf w l ≡ l
-unfolding those
-beyond-all k above-none = refl
-beyond-all k (above-more {w = x} i h a) =
-    let j = within-inside k i in
-    rw (inside-test j) (ap (λ (t : List ℕ). x ∷ t) (beyond-all (j .within) a))
-
--- beyond the innermost view are all others
-pub beyond-least : {v : ℕ} {q : List ℕ} → Above v q → beyondOf (leastOf q) q ≡ drop 1 q
-unfolding those
-beyond-least above-none = refl
-beyond-least (above-more {w = w} i h a) = rw (inside-self w) (beyond-all (within-refl w) a)

@@ -6,7 +6,7 @@ use mathlib.Core.Bool.{Bool, true, false, not, _&&_, and-eq-true-iff}
 use Prim.Native.Nat.{ℕ, zero, suc, _+_, _-_, _/_, _%_, _^_, _≤_, _<_}
 use native.Mathlib.Omega.{arith}
 use native.Mathlib.Decide.{ℕ-discrete}
-use native.Mathlib.Nat.{pow-suc, eq-or-lt-of-le}
+use native.Mathlib.Nat.{eq-or-lt-of-le}
 use lib.Arith.{bin-ind}
 use lib.Dec.{eqb}
 use lib.Bits.{bitAnd, bitOr, and-step, and-comm, and-self, and-le-l, and-le-r, and-zero-l}
@@ -14,7 +14,7 @@ use lib.Count.{ones, ones-step}
 use borrow.Author.Tests.{eqb-true, eqb-false, eq-eqb, ne-eqb, not-true}
 use Rattle.views.specs.View.{bitOf, membersOf, memberOf, withinOf, insideOf, clashOf}
 use Rattle.views.proofs.Truth.{decided, never-true, contrary}
-use Rattle.views.proofs.Digits.{digit, digit-lt, digit-and, digit-or, and-half, and-low, or-half, or-low, ext, bit-fact, bit-test, clear-fact, bit-below, bit-none, bit-one}
+use Rattle.views.proofs.Digits.{digit, digit-and, digit-or, and-half, and-low, or-half, or-low, ext, bit-fact, clear-fact, bit-below, bit-none, bit-one}
 
 -- ---- inclusion, as a program tests it: `a & b == a`. A record, so that nothing unfolds it and its two sets are implicit in a lemma
 
@@ -52,11 +52,6 @@ within-or-right a b = digit-within (λ i. omega (arith, digit-or i a b))
 pub or-within : {a b c : ℕ} → Within a c → Within b c → Within (bitOr a b) c
 or-within {a} {b} h k = digit-within (λ i. omega (arith, digit-or i a b, within-digit h i, within-digit k i))
 
-pub or-assoc : (a b c : ℕ) → bitOr (bitOr a b) c ≡ bitOr a (bitOr b c)
-or-assoc a b c =
-    ext (bitOr (bitOr a b) c) (bitOr a (bitOr b c))
-    (λ i. omega (arith, digit-or i (bitOr a b) c, digit-or i a b, digit-or i a (bitOr b c), digit-or i b c))
-
 pub and-assoc : (a b c : ℕ) → bitAnd (bitAnd a b) c ≡ bitAnd a (bitAnd b c)
 and-assoc a b c =
     ext (bitAnd (bitAnd a b) c) (bitAnd a (bitAnd b c))
@@ -82,13 +77,6 @@ ones-or-and =
 
 pub ones-none : (a : ℕ) → ones a ≡ 0 → a ≡ 0
 ones-none = bin-ind (λ (n : ℕ). ones n ≡ 0 → n ≡ 0) (λ e. refl) (λ n ih e. omega (arith, ih (omega (arith, ones-step n)), ones-step n))
-
-pub ones-single : (j : ℕ) → ones (2 ^ j) ≡ 1
-unfolding ones
-ones-single zero = refl
-ones-single (suc j) =
-    let e : 2 ^ suc j / 2 ≡ 2 ^ j = omega (arith, pow-suc 2 j) in
-    omega (arith, ones-step (2 ^ suc j), pow-suc 2 j, ap ones e, ones-single j)
 
 -- a set inside another is that set, or has fewer members
 smaller : (a b : ℕ) → bitAnd a b ≡ a → (a ≡ b) ⊎ (ones a < ones b)
@@ -156,9 +144,6 @@ pub inside-or : (a b : ℕ) → (Within b a → ⊥) → Inside a (bitOr a b)
 inside-or a b h = record { within = within-or-left a b; other = λ e. h (rw (← e) at (within-or-right a b)) }
 
 -- ---- the tests of inclusion
-
-pub within-bit : {a b : ℕ} → Within a b → (s : ℕ) → bitOf a s ≡ true → bitOf b s ≡ true
-within-bit {a} {b} h s e = bit-test b s (omega (arith, within-digit h s, bit-fact a s e, digit-lt s b))
 
 pub bit-within : (a b : ℕ) → ((s : ℕ) → bitOf a s ≡ true → bitOf b s ≡ true) → Within a b
 bit-within a b h =

@@ -18,15 +18,17 @@ use Rattle.rules.specs.Sending.{placeAll, freeIn}
 use Rattle.rules.specs.Steps.{reports, roomy, relayDoes, deskDoes, freed}
 use Rattle.rules.specs.Image.{deskBytes, image, worldAt, goodBytes}
 use Rattle.rules.specs.Lent.{kept}
+use Rattle.rules.proofs.Kept.{places-length}
 use Rattle.rules.proofs.ImageWidths.{length-desk, length-image}
 use Rattle.rules.proofs.ImageWorld.{good-image}
 use Rattle.rules.proofs.ImageWrite.{put-desk}
 use Rattle.state.specs.Plans.{Planned, noSending, planned}
 use Rattle.world.specs.Answer.{accepted}
-use Rattle.world.specs.Narrow.{widened}
-use Rattle.world.specs.Commits.{freeRows, receiversBelow, freedAt, delivered, Few, relayLeft, deskLeft}
-use Rattle.world.proofs.NarrowFew.{none-copied, two-out}
-use Rattle.world.proofs.Places.{free-rows, freed-rooms, freed-long, places-long, places-append, copies-length}
+use Rattle.locality.specs.Narrow.{widened}
+use Rattle.locality.specs.Asked.{Few}
+use Rattle.world.specs.Commits.{freeRows, receiversBelow, freedAt, delivered, relayLeft, deskLeft}
+use Rattle.locality.proofs.Few.{none-copied, two-out}
+use Rattle.world.proofs.Places.{free-rows, freed-rooms, freed-long, places-append, copies-length}
 use Rattle.world.proofs.Good.{shaped}
 
 -- ---- the answer that a plan is for
@@ -81,7 +83,7 @@ module _ (v : World) (long : length (v .places) ≡ 256) (p from : ℕ) where
       → ((w : World) → length (w .places) ≡ 256 → c ≡ image w → d ≡ image (withPlaces w (placeAll (copies from y) (w .places))))
       → d ≡ image (withPlaces u (placeAll (copies from x ++ copies from y) (u .places)))
   sent-two x y a b c d e f g h =
-      h (withPlaces u (placeAll (copies from x) (u .places))) (places-long (copies from x) (u .places) ∙ freed-long v long p) (sent-one x a b c e f g)
+      h (withPlaces u (placeAll (copies from x) (u .places))) (places-length (copies from x) (u .places) ∙ freed-long v long p) (sent-one x a b c e f g)
       ∙ rw (places-append (copies from x) (copies from y) (u .places))
 
 relay-freed : (w : World) (p s : ℕ) (r : Relay) → freedAt (withRelay w s r) p ≡ withRelay (freedAt w p) s r

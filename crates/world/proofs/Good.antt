@@ -12,26 +12,25 @@ use borrow.Author.Tests.{lt-ltb, not-true, ltb-true, ltb-false}
 use Rattle.views.proofs.Truth.{decided}
 use Rattle.rows.specs.Bytes.{u16At}
 use Rattle.rows.proofs.Laws.{getD-tab}
-use Rattle.rules.specs.Sets.{all, allHold}
 use Rattle.rules.specs.State.{Generator, Transfer, Relay, noRelay, noDesk, free}
 use Rattle.rules.specs.State as state
 use Rattle.rules.specs.Generators.{fresh}
 use Rattle.rules.specs.Relays.{freshTransfer, isFor}
 use Rattle.rules.specs.Steps.{aliveIn}
-use Rattle.rules.specs.WellFormed.{isPair, distinct, goodGenerators, goodTransfers, goodRelay, goodPlace, wellFormed}
+use Rattle.rules.specs.WellFormed.{goodRelay, goodPlace, wellFormed}
 use Rattle.rules.specs.Image.{generatorAt, transferAt, relayAt, deskAt, rowAt, placeIn, worldAt, goodBytes}
 use Rattle.rules.proofs.Hold.{hold-facts, from-at, all-at}
 use Rattle.rules.proofs.ImageFits.{RelayFits}
-use Rattle.rules.proofs.ImageWorld.{Shaped, WorldFits, world-fits, good-formed, good-image}
+use Rattle.rules.proofs.ImageWorld.{no-relay, no-place, Shaped, WorldFits, world-fits, good-formed, good-image}
 use Rattle.rules.proofs.ImageRead.{read-generator, read-transfer}
 use Rattle.state.specs.declared.Head.{Head}
 use Rattle.state.specs.Meaning.{relayOf, asList}
 use Rattle.image.specs.Parts.{headAt}
-use Rattle.world.specs.Narrow.{Move, move, withTables, narrow}
+use Rattle.locality.specs.Narrow.{Move, move, withTables, narrow}
 use Rattle.world.specs.Commits.{First, rowOf, endsView, endsMove}
-use Rattle.world.proofs.NarrowTable.{byView, byMove}
-use Rattle.world.proofs.NarrowSeat.{present}
-use Rattle.world.proofs.NarrowPart.{seatOfView, seatOfMove, generator-there, generator-absent, transfer-there, transfer-absent}
+use Rattle.locality.proofs.Table.{byView, byMove}
+use Rattle.locality.proofs.Seat.{present}
+use Rattle.locality.proofs.Part.{seatOfView, seatOfMove, generator-there, generator-absent, transfer-there, transfer-absent}
 use Rattle.world.proofs.Lists.{seat-found}
 
 last : {A : Type 0} (l : List A) (d : A) → getD l (length l) d ≡ d
@@ -70,14 +69,6 @@ module _ (b : List ℕ) where
   head-with s h gs ts = rw (relay-at s h)
 
 -- ---- good bytes
-
-no-relay : (s : ℕ) → goodRelay s noRelay ≡ true
-unfolding goodRelay goodGenerators goodTransfers isPair allHold all distinct
-no-relay s = refl
-
-no-place : goodPlace free ≡ true
-unfolding goodPlace
-no-place = refl
 
 module _ (b : List ℕ) (good : goodBytes b ≡ true) where
   pub fitting : WorldFits (worldAt b)

@@ -14,7 +14,7 @@ use Rattle.rules.specs.State as state
 use Rattle.rules.specs.Relays.{freshTransfer}
 use Rattle.rules.specs.Image.{bodyRow, rowBytes, placeBytes, transferAt}
 use Rattle.rules.proofs.ImageFits.{replicate-at}
-use Rattle.rules.proofs.ImageChange.{changed-add}
+use Rattle.rows.proofs.Change.{changed-add}
 use Rattle.state.specs.declared.Transfer.{Transfer}
 use Rattle.state.specs.declared.Body.{Body}
 use Rattle.state.specs.Meaning.{transferOf, bodyOf}
@@ -95,11 +95,6 @@ pub kept-at : (ts : List Transfer) (k : ℕ)
 unfolding transferOf viewsOf freshTransfer
 kept-at ts k =
     sym (List·getD-map transferOf ts k (record { old = 0; new = 0; sequence = record { views = []; len = 0 }; senders = 0; best = record { stamp = record { count = 0; desk = 0 }; value = 0 }; gathered = 0 }))
-
-pub map-set : {A B : Type 0} (f : A → B) (l : List A) (i : ℕ) (x : A) → map f (set l i x) ≡ set (map f l) i (f x)
-map-set f [] i x = refl
-map-set f (y ∷ l) zero x = refl
-map-set {B = B} f (y ∷ l) (suc i) x = ap (λ (m : List B). f y ∷ m) (map-set f l i x)
 
 -- ---- a message made plain is written as its place
 

@@ -1,11 +1,3 @@
-pub mod NarrowTable
-pub mod NarrowTurn
-pub mod NarrowWide
-pub mod NarrowSeat
-pub mod NarrowFits
-pub mod NarrowLocal
-pub mod NarrowFew
-pub mod NarrowPart
 pub mod Lists
 pub mod Places
 pub mod Good

@@ -9,14 +9,14 @@ use native.Mathlib.Numerals.{add-one}
 use native.Mathlib.Decide.{ℕ-discrete}
 use native.Mathlib.Omega.{arith}
 use lib.Dec.{leb, lit≤}
-use mir.Val.{boolByte}
 use lib.ListN.{length, getD, set}
 use borrow.Author.Tests.{leb-true, leb-false}
 use Rattle.views.proofs.Truth.{decided, contrary, neither-true, either-true}
 use Rattle.rows.specs.Bytes.{tab}
 use Rattle.rules.specs.Sets.{if_then_else_, those}
+use Rattle.rules.proofs.Lists.{those-append}
 use Rattle.world.specs.Commits.{First}
-use Rattle.world.proofs.NarrowSeat.{seat, seat-is}
+use Rattle.locality.proofs.Seat.{seat, seat-is}
 
 -- ---- a search from 0 on
 
@@ -43,24 +43,14 @@ found-none {n} {f} {i} m h = record { within = omega arith; below = λ k p. m .b
 
 -- ---- the part that passes
 
-module _ {A : Type 0} (f : A → Bool) where
-  pub those-append : (a b : List A) → those f (a ++ b) ≡ those f a ++ those f b
-  unfolding those
-  those-append [] b = refl
-  those-append (x ∷ a) b = go (f x) (those-append a b)
-    where
-      go : (t : Bool) → those f (a ++ b) ≡ those f a ++ those f b → (if t then x ∷ those f (a ++ b) else those f (a ++ b)) ≡ (if t then x ∷ those f a else those f a) ++ those f b
-      go true e = rw e
-      go false e = e
+module _ {A : Type 0} (f : A → Bool) (g : ℕ → A) (i : ℕ) where
+  pub those-more : f (g i) ≡ true → those f (tab (i + 1) g) ≡ those f (tab i g) ++ (g i ∷ [])
+  unfolding tab
+  those-more e = rw (add-one, tab, those-append f (tab i g) (g i ∷ [])) (unfold those in (rw e))
 
-  module _ (g : ℕ → A) (i : ℕ) where
-    pub those-more : f (g i) ≡ true → those f (tab (i + 1) g) ≡ those f (tab i g) ++ (g i ∷ [])
-    unfolding tab
-    those-more e = rw (add-one, tab, those-append (tab i g) (g i ∷ [])) (unfold those in (rw e))
-
-    pub those-same : f (g i) ≡ false → those f (tab (i + 1) g) ≡ those f (tab i g)
-    unfolding tab
-    those-same e = rw (add-one, tab, those-append (tab i g) (g i ∷ [])) (unfold those in (rw e (append-nil (those f (tab i g)))))
+  pub those-same : f (g i) ≡ false → those f (tab (i + 1) g) ≡ those f (tab i g)
+  unfolding tab
+  those-same e = rw (add-one, tab, those-append f (tab i g) (g i ∷ [])) (unfold those in (rw e (append-nil (those f (tab i g)))))
 
 module _ {A : Type 0} (f g : A → Bool) (h : (x : A) → f x ≡ true → g x ≡ true) where
   -- what passes f passes g before
@@ -117,14 +107,6 @@ module _ {A : Type 0} where
   set-self (x ∷ xs) (suc i) d = ap (λ (l : List A). x ∷ l) (set-self xs i d)
 
 -- ---- a test as a number
-
-pub byte-one : (b : Bool) → boolByte b ≡ (if b then 1 else 0)
-byte-one true = refl
-byte-one false = refl
-
-pub byte-le : (b : Bool) → boolByte b ≤ 1
-byte-le true = lit≤ tt
-byte-le false = lit≤ tt
 
 pub one-le : (b : Bool) → (if b then 1 else 0) ≤ 1
 one-le true = lit≤ tt

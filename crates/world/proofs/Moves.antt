@@ -8,6 +8,7 @@ use lib.Dec.{eqb, leb, ltb}
 use lib.ListN.{length}
 use mir.Val.{boolByte}
 use borrow.Author.Tests.{eqb-true}
+use Rattle.rules.proofs.Lists.{byte-le}
 use Rattle.views.proofs.Truth.{cases}
 use Rattle.rules.specs.Messages.{Refusal, bad-world, bad-step, empty, dead, not-now, not-yet, worn, no-room, outgoing, refused, does}
 use Rattle.rules.specs.Messages as messages
@@ -69,10 +70,6 @@ crashing-moves : (w : World) (who : ℕ) → Quiet (crashing w who)
 unfolding crashing
 crashing-moves w who = cases Quiet (ltb who 8) (λ _. done-moves _ _ _ false false) (λ _. done-moves _ _ _ false false)
 
-byte-one : (b : Bool) → boolByte b ≤ 1
-byte-one true = omega arith
-byte-one false = omega arith
-
 module _ (w : World) (k : Step) where
   abbrev Told : Act → Type 0
   Told a = Moves (acts w a) (eqb (k .kind) 6) (eqb (k .kind) 7)
@@ -95,7 +92,7 @@ module _ (w : World) (k : Step) where
       refusal-moves bad-step (eqb (k .kind) 6) (eqb (k .kind) 7)))))))))
 
   pub moves-one : (deliveredBy (stepped w k) ≤ 1) × (droppedBy (stepped w k) ≤ 1)
-  moves-one = (rw (step-moves .delivered) (byte-one (eqb (answer (stepped w k)) 0 && eqb (k .kind) 6)), rw (step-moves .dropped) (byte-one (eqb (answer (stepped w k)) 0 && eqb (k .kind) 7)))
+  moves-one = (rw (step-moves .delivered) (byte-le (eqb (answer (stepped w k)) 0 && eqb (k .kind) 6)), rw (step-moves .dropped) (byte-le (eqb (answer (stepped w k)) 0 && eqb (k .kind) 7)))
 
 -- of a run no more than its steps
 sum-few : (f : Outcome → ℕ) → ((w : World) (k : Step) → f (stepped w k) ≤ 1) → (W : World) (ks : List Step) → sum f (outcomes W ks) ≤ length ks

@@ -1,7 +1,7 @@
 -- The message places of an image: which are free, how many, and what placing, freeing and sending make of them. Assumes nothing.
 use mathlib.Core.Path.{_≡_, refl, sym, ap, _∙_}
 use mathlib.Core.Logic.{_≢_, ⊎-elim}
-use mathlib.Core.Bool.{Bool, true, false}
+use mathlib.Core.Bool.{true, false}
 use mathlib.Core.List.{List, [], _∷_, _++_, map}
 use Prim.Native.Nat.{ℕ, zero, suc, _+_, _*_, _≤_, _<_, suc-le-suc}
 use native.Mathlib.Nat.{le-of-suc-le-suc}
@@ -13,14 +13,16 @@ use borrow.Author.Tests.{ltb-true, ltb-false}
 use Rattle.views.proofs.Truth.{decided, contrary}
 use Rattle.rows.specs.Bytes.{placed, splice, tab, cat, zeros}
 use Rattle.rows.proofs.Laws.{Holds, holds-byte, placed-fits}
+use Rattle.rows.proofs.Change.{Changed, changed-first, changed-more, changed-set}
 use Rattle.rules.specs.Sets.{if_then_else_, bit, those}
 use Rattle.rules.specs.Messages.{Body, request, view, proposal, converged, install, state, get, put, viewReply, pairReply, ack, Message, Sending, copies}
 use Rattle.rules.specs.State.{Place, free, waiting, World, placeAt, withPlaces}
 use Rattle.rules.specs.Sending.{place, placeAll, freeIn}
 use Rattle.rules.specs.Steps.{freed}
 use Rattle.rules.specs.Image.{bodyRow, placeRow, rowBytes, placeBytes, image}
+use Rattle.rules.proofs.Table.{isFree}
+use Rattle.rules.proofs.Kept.{places-length}
 use Rattle.rules.proofs.ImageWidths.{length-place, length-image}
-use Rattle.rules.proofs.ImageChange.{changed-set, changed-place}
 use Rattle.rules.proofs.ImageRead.{holds-place}
 use Rattle.rules.proofs.ImageWrite.{put-place}
 use Rattle.rules.proofs.ImageZeros.{place-zeros}
@@ -28,10 +30,6 @@ use Rattle.world.specs.Commits.{First, freeRow, freeRows, receiversBelow
 use Rattle.world.proofs.Lists.{those-more, those-same}
 
 -- ---- a place's kind is 0 exactly where it is free
-
-abbrev pub isFree : Place → Bool
-isFree free = true
-isFree (waiting m) = false
 
 body-kind : (s r : ℕ) (b : Body) → eqb (bodyRow s r b .kind) 0 ≡ false
 body-kind s r (request u c) = refl
@@ -135,6 +133,16 @@ module _ (w : World) (long : length (w .places) ≡ 256) (p : ℕ) where
 fits-place : (w : World) (p : ℕ) (x : Place) → p < 256 → placed (image w) (43776 + p * 80) (placeBytes x) ≡ splice (image w) (43776 + p * 80) (placeBytes x)
 fits-place w p x h = placed-fits (image w) (placeBytes x) (43776 + p * 80) (omega (arith, length-place x, length-image w))
 
+-- i is the lowest free place
+changed-place : (m : Message) (ps : List Place) (i : ℕ) → i < length ps → ((k : ℕ) → k < i → getD ps k free ≢ free) → getD ps i free ≡ free
+    → Changed free ps i (waiting m) (place m ps)
+unfolding place
+changed-place m [] i h below here = absurd (omega arith)
+changed-place m (free ∷ ps) zero h below here = changed-first
+changed-place m (free ∷ ps) (suc i) h below here = absurd (below 0 (omega arith) refl)
+changed-place m (waiting x ∷ ps) zero h below here = let z : _≡_ {A = ℕ} 0 1 = cc in absurd (omega arith)
+changed-place m (waiting x ∷ ps) (suc i) h below here = changed-more (changed-place m ps i (le-of-suc-le-suc h) (λ k p. below (suc k) (suc-le-suc p)) here)
+
 full : (m : Message) (ps : List Place) → ((k : ℕ) → k < length ps → getD ps k free ≢ free) → place m ps ≡ ps
 unfolding place
 full m [] q = refl
@@ -161,17 +169,6 @@ module _ (w : World) (long : length (w .places) ≡ 256) where
   put-nowhere m p f h = full m (w .places) (λ k q. not-free _ (sym (free-row w k (omega arith)) ∙ f .below k (omega arith)))
 
 -- ---- sent
-
-pub place-long : (m : Message) (ps : List Place) → length (place m ps) ≡ length ps
-unfolding place
-place-long m [] = refl
-place-long m (free ∷ ps) = refl
-place-long m (waiting x ∷ ps) = ap suc (place-long m ps)
-
-pub places-long : (ms : List Message) (ps : List Place) → length (placeAll ms ps) ≡ length ps
-unfolding placeAll
-places-long [] ps = refl
-places-long (m ∷ ms) ps = places-long ms (place m ps) ∙ place-long m ps
 
 pub places-append : (a b : List Message) (ps : List Place) → placeAll (a ++ b) ps ≡ placeAll b (placeAll a ps)
 unfolding placeAll
@@ -236,7 +233,7 @@ module _ {s₀ : List ℕ} {from : ℕ} {x : Sending} where
 
       go : (w : World) → length (w .places) ≡ 256 → s₀ ≡ image w → t ≡ image (withPlaces w (placeAll (copiesBelow from x (n + 1)) (w .places)))
       go w l q =
-          f (withPlaces w (placeAll (copiesBelow from x n) (w .places))) (places-long (copiesBelow from x n) (w .places) ∙ l) (h .is w l q)
+          f (withPlaces w (placeAll (copiesBelow from x n) (w .places))) (places-length (copiesBelow from x n) (w .places) ∙ l) (h .is w l q)
           ∙ rw (more, places-append (copiesBelow from x n) (message from (x .body) n ∷ []) (w .places)) (unfold placeAll in refl)
 
   pub sent-all : {s : List ℕ} {n : ℕ} → Sent s₀ from x s n → 12 ≤ n

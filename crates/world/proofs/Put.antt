@@ -22,14 +22,14 @@ use Rattle.rules.specs.Image.{headBytes, generatorBytes, transferBytes, relayBy
 use Rattle.rules.specs.Image.{relayAt as relayIn}
 use Rattle.rules.proofs.ImageWidths.{length-head, length-generator, length-transfer, length-image}
 use Rattle.rules.proofs.ImageWorld.{Shaped, good-image}
-use Rattle.rules.proofs.ImageChange.{Changed}
+use Rattle.rows.proofs.Change.{Changed}
 use Rattle.rules.proofs.ImageWrite.{put-head, put-generator, put-transfer, put-transfers, write-relay, shaped-relay}
 use Rattle.state.specs.declared.Part.{Part}
 use Rattle.state.specs.Meaning.{generatorOf, transferOf, relayOf, partOf}
 use Rattle.image.proofs.Parts.{head-alone}
-use Rattle.world.specs.Narrow.{move, widened}
+use Rattle.locality.specs.Narrow.{move, widened}
 use Rattle.world.specs.Commits.{First, endsView, endsMove, keptRows}
-use Rattle.world.proofs.NarrowPart.{generators-fit, transfers-fit, generators-stay, generator-written, generator-room, transfers-stay, transfer-written, transfer-room, transfers-freed, freed-fewer}
+use Rattle.locality.proofs.Part.{generators-fit, transfers-fit, generators-stay, generator-written, generator-room, transfers-stay, transfer-written, transfer-room, transfers-freed, freed-fewer}
 use Rattle.world.proofs.Lists.{set-twice, set-self, those-again}
 use Rattle.world.proofs.Good.{relay-at, view-at, shaped, good-relay, seat-view, seat-move}
 

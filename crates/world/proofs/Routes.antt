@@ -22,6 +22,7 @@ use Rattle.rules.specs.Image.{bodyIn, placeIn, rowAt, image, worldAt, goodBytes
 use Rattle.rules.specs.Lent.{kept, left, lentStep}
 use Rattle.rules.proofs.Hold.{hold-facts}
 use Rattle.rules.proofs.Sends.{to-member}
+use Rattle.rules.proofs.Table.{isFree}
 use Rattle.rules.proofs.ImageWorld.{good-image}
 use Rattle.state.specs.declared.Body as code-body
 use Rattle.state.specs.declared.Message as code-message
@@ -29,9 +30,10 @@ use Rattle.state.specs.Meaning.{bodyOf, messageOf}
 use Rattle.image.specs.Parts.{messageRow}
 use Rattle.image.proofs.Parts.{place-is}
 use Rattle.world.specs.Answer.{accepted}
-use Rattle.world.specs.Narrow.{generatorOfBody, move, moveOfBody, widens}
-use Rattle.world.specs.Commits.{freeRow, freedAt, delivered, relayLeft, deskLeft, relayAsked, relayActs, deskAsked, deskActs, placeAct, actorOf}
-use Rattle.world.proofs.Places.{isFree, free-row, is-free}
+use Rattle.locality.specs.Narrow.{generatorOfBody, move, moveOfBody, widens}
+use Rattle.locality.specs.Asked.{relayAsked, deskAsked}
+use Rattle.world.specs.Commits.{freeRow, freedAt, delivered, relayLeft, deskLeft, relayActs, deskActs, placeAct, actorOf}
+use Rattle.world.proofs.Places.{free-row, is-free}
 use Rattle.world.proofs.Good.{place-at, good-place}
 
 -- ---- which act a step tells

@@ -4,18 +4,17 @@ use mathlib.Core.Bool.{Bool, true, false, not, _&&_, _||_}
 use mathlib.Core.List.{List}
 use Prim.Native.Nat.{ℕ, zero, suc, _+_, _*_, _-_, _≤_, _<_}
 use lib.Dec.{eqb, leb, ltb}
-use lib.ListN.{length, getD, set, replicate}
+use lib.ListN.{getD, set, replicate}
 use Rattle.rows.specs.Bytes.{u16At, tab}
 use Rattle.rules.specs.Sets.{if_then_else_, bit, those, inside}
-use Rattle.rules.specs.Messages.{Body, Message, Answer, refused, does}
+use Rattle.rules.specs.Messages.{Body, Message, Answer}
 use Rattle.rules.specs.State.{Transfer, Relay, Place, free, waiting, noRelay, noDesk, World, relayAt, deskAt, placeAt, startRelay, startDesk}
 use Rattle.rules.specs.declared.Desk.{Desk}
-use Rattle.rules.specs.Relays.{joinAsked, leaveAsked, timerRang}
-use Rattle.rules.specs.Desks.{readAsked, writeAsked}
 use Rattle.rules.specs.Steps.{Act, deliver, drop, Outcome, relayDoes, deskDoes, freed}
 use Rattle.rules.specs.Image.{transferAt, worldAt}
 use Rattle.rules.specs.Lent.{Lent, left}
-use Rattle.world.specs.Narrow.{widens}
+use Rattle.locality.specs.Narrow.{widens}
+use Rattle.locality.specs.Asked.{relayAsked, deskAsked}
 
 -- r is the first number below n that passes the test, or n
 pub record First (n : ℕ) (f : ℕ → Bool) (r : ℕ) : Type 0 where
@@ -70,11 +69,6 @@ isWaiting (waiting m) = true
 unfoldable pub delivered : World → ℕ → Bool
 delivered w p = not (ltb p 256) || isWaiting (placeAt w p)
 
--- it sends at most two things
-unfoldable pub Few : {A : Type 0} → Answer A → Type 0
-Few (refused x) = Unit {0}
-Few (does a ss e) = length ss ≤ 2
-
 -- what is left when the relay s, of whose part the rule made a, or the desk d answers; n counts the delivered
 unfoldable pub relayLeft : List ℕ → ℕ → ℕ → ℕ → Answer Relay → Lent
 relayLeft b n p s a = left b (relayDoes (freedAt (worldAt b) p) n s (widens (relayAt (worldAt b) s) a))
@@ -84,16 +78,8 @@ deskLeft b n p d a = left b (deskDoes (freedAt (worldAt b) p) n d a)
 
 -- ---- asked: what a kind asks, and who acts
 
--- "1 JOIN relay, 2 LEAVE relay, 3 TIMER relay"
-unfoldable pub relayAsked : ℕ → ℕ → Relay → Answer Relay
-relayAsked kind s r = if eqb kind 1 then joinAsked s r else if eqb kind 2 then leaveAsked s r else timerRang r
-
 abbrev pub relayActs : World → ℕ → ℕ → Outcome
 relayActs w kind s = relayDoes w 0 s (relayAsked kind s (relayAt w s))
-
--- "4 READ desk, 5 WRITE desk value"
-unfoldable pub deskAsked : ℕ → ℕ → Desk → Answer Desk
-deskAsked kind x d = if eqb kind 5 then writeAsked d x else readAsked d
 
 abbrev pub deskActs : World → ℕ → ℕ → ℕ → Outcome
 deskActs w kind n x = deskDoes w 0 n (deskAsked kind x (deskAt w n))

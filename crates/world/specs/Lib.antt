@@ -1,4 +1,3 @@
 pub mod Answer
-pub mod Narrow
 pub mod Commits
 pub mod Playing

@@ -10,7 +10,7 @@ ghost use Rattle.rules.specs.State.{relayAt};
 ghost use Rattle.rules.specs.Steps.{aliveIn};
 ghost use Rattle.rules.specs.Image.{worldAt, goodBytes, generatorAt};
 ghost use Rattle.state.specs.Meaning.{partOf, generatorOf};
-ghost use Rattle.world.specs.Narrow.{move, narrow, widened};
+ghost use Rattle.locality.specs.Narrow.{move, narrow, widened};
 ghost use Rattle.world.specs.Commits.{First, rowOf, freeRow, freeRows, endsView, endsMove, receiversBelow};
 use state::Generator;
 use state::Part;

@@ -12,7 +12,7 @@ ghost use Rattle.rules.specs.Sending as rules;
 ghost use Rattle.rules.specs.Relays.{freshTransfer};
 ghost use Rattle.rules.specs.Image.{transferBytes, image, worldAt, goodBytes};
 ghost use Rattle.state.specs.Meaning.{transferOf, partOf, bodyOf, sendingOf};
-ghost use Rattle.world.specs.Narrow.{widened};
+ghost use Rattle.locality.specs.Narrow.{widened};
 ghost use Rattle.world.specs.Commits.{freedAt, keptRows, message};
 use state::Body;
 use state::Message;

@@ -7,7 +7,8 @@ use lib.ListN.{length, drop, length-map}
 use Rattle.views.specs.Row.{viewsOf}
 use Rattle.rules.specs.Generators.{noted}
 use Rattle.state.specs.Meaning.{notesOf}
-use Rattle.generator.proofs.Notes.{byte-le, noted-start, noted-small, noted-step}
+use Rattle.rules.proofs.Lists.{byte-le}
+use Rattle.generator.proofs.Notes.{noted-start, noted-small, noted-step}
 use Rattle.generator.proofs.agreeing.Statement.{statement}
 use Rattle.generator.proofs.agreeing.Tie as tie
 

@@ -6,7 +6,8 @@ use lib.ListN.{length, length-map}
 use borrow.Author.Needs.{needs}
 use Rattle.views.specs.Row.{viewsOf}
 use Rattle.state.specs.Meaning.{notesOf}
-use Rattle.generator.proofs.Notes.{set-map, set-past}
+use Rattle.rules.proofs.Lists.{map-set}
+use Rattle.generator.proofs.Notes.{set-past}
 use Rattle.generator.proofs.noted.Statement.{statement}
 use Rattle.generator.proofs.noted.Tie as tie
 
@@ -19,7 +20,7 @@ returns c =
 
 returns-2 : tie.Need-returns-2
 unfolding notesOf
-returns-2 c = let a = c .before .args in set-map viewsOf (a .n .of) (a .from) (a .q)
+returns-2 c = let a = c .before .args in map-set viewsOf (a .n .of) (a .from) (a .q)
 
 pub noted-spec : {M : Type 1} → statement M
 noted-spec = tie.close (tie.spec returns (λ c. search needs) (λ c. search needs) returns-2)

@@ -1,22 +1,17 @@
 -- `image::notes_at` meets its contract: the sequences before i are read. Assumes nothing.
-use mathlib.Core.Path.{_≡_, refl, ap, _∙_}
-use mathlib.Core.List.{List, [], _∷_, map}
-use Prim.Native.Nat.{ℕ, zero, suc, _+_, _*_, _-_}
-use lib.ListN.{set}
+use mathlib.Core.Path.{refl, _∙_}
+use mathlib.Core.List.{[], map}
+use Prim.Native.Nat.{_+_, _*_, _-_}
 use borrow.Author.Needs.{needs}
 use Rattle.rows.proofs.Laws.{Filled, fill-none, fill-more, fill-all}
 use Rattle.views.specs.Row.{viewsOf}
 use Rattle.rules.specs.Image.{sequenceAt}
+use Rattle.rules.proofs.Lists.{map-set}
 use Rattle.state.specs.Meaning.{notesOf}
 use Rattle.image.specs.Parts.{notesAt}
 use Rattle.image.proofs.Ends.{alike-end, notes-alike}
 use Rattle.image.proofs.notes_at.Statement.{statement}
 use Rattle.image.proofs.notes_at.Tie as tie
-
-map-set : {A B : Type 0} (f : A → B) (l : List A) (i : ℕ) (x : A) → map f (set l i x) ≡ set (map f l) i (f x)
-map-set f [] i x = refl
-map-set f (y ∷ l) zero x = refl
-map-set {B = B} f (y ∷ l) (suc i) x = ap (λ (m : List B). f y ∷ m) (map-set f l i x)
 
 abbrev Inv-loop : tie.InvT-loop
 Inv-loop s at a of₀ i₀ of i = Filled 8 [] (λ k. sequenceAt s (a + k * 31)) i (map viewsOf of)

@@ -1,16 +1,15 @@
 -- `image::put_notes` meets its contract: the sequences before i are written. Assumes nothing.
-use mathlib.Core.Path.{_≡_, sym}
-use mathlib.Core.List.{List, [], map}
-use Prim.Native.Nat.{ℕ, _+_, _*_, _-_, _≤_}
+use mathlib.Core.List.{[], map}
+use Prim.Native.Nat.{_+_, _*_, _-_, _≤_}
 use native.Mathlib.Omega.{arith}
-use lib.ListN.{List·getD-map, length, getD}
+use lib.ListN.{length, getD}
 use borrow.Author.Needs.{needs}
 use Rattle.rows.proofs.Laws.{room, no-room, Wrote, wrote-none, wrote-more, wrote-all}
-use Rattle.views.specs.declared.Sequence.{Sequence}
 use Rattle.views.specs.Row.{viewsOf}
 use Rattle.rules.specs.Image.{sequenceBytes}
 use Rattle.state.specs.Meaning.{notesOf}
 use Rattle.image.specs.Parts.{notesBytes}
+use Rattle.image.proofs.Parts.{note-at}
 use Rattle.image.proofs.Widths.{length-sequence, length-notes}
 use Rattle.image.proofs.put_notes.Statement.{statement}
 use Rattle.image.proofs.put_notes.Tie as tie
@@ -20,10 +19,6 @@ Inv-loop s₀ at of i₀ s i = Wrote 31 8 (λ k. sequenceBytes (getD (map viewsO
 
 abbrev μ-loop : tie.MeasureT-loop
 μ-loop s₀ at of i₀ s i = 8 - i
-
-note-at : (qs : List Sequence) (k : ℕ) → viewsOf (getD qs k (record { views = []; len = 0 })) ≡ getD (map viewsOf qs) k []
-unfolding viewsOf
-note-at qs k = sym (List·getD-map viewsOf qs k (record { views = []; len = 0 }))
 
 returns : tie.Need-returns Inv-loop μ-loop
 returns c = no-room _ _ _ (length-notes _) (c .before .has-room .ensures) (c .if1 .taken)

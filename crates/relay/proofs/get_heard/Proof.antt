@@ -1,5 +1,4 @@
 -- `relay::get_heard` meets its contract. Assumes nothing.
-use mathlib.Core.Path.{_∙_}
 use Rattle.rules.specs.Relays.{getHeard}
 use Rattle.state.specs.Meaning.{relayOf, partOf}
 use Rattle.relay.specs.Serving.{servedBy}

@@ -1,5 +1,4 @@
 -- `relay::put_heard` meets its contract. Assumes nothing.
-use mathlib.Core.Path.{_∙_}
 use Rattle.rules.specs.State.{withHolds}
 use Rattle.rules.specs.Relays.{putHeard}
 use Rattle.state.specs.Meaning.{relayOf, partOf}

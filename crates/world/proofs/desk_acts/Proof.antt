@@ -5,8 +5,8 @@ use Rattle.rules.specs.State.{noDesk, deskAt}
 use Rattle.rules.specs.declared.Desk.{Desk}
 use Rattle.rules.specs.Image.{worldAt}
 use Rattle.state.specs.Plans.{planned}
-use Rattle.world.specs.Commits.{deskAsked}
-use Rattle.world.proofs.NarrowFew.{desk-asked-few}
+use Rattle.locality.specs.Asked.{deskAsked}
+use Rattle.locality.proofs.Few.{desk-asked-few}
 use Rattle.world.proofs.Good.{desk-at}
 use Rattle.world.proofs.Routes.{none-delivered, desk-step}
 use Rattle.world.proofs.desk_acts.Statement.{statement}

@@ -1,6 +1,6 @@
 -- `world::desk_asked` meets its contract. Assumes nothing.
 use borrow.Author.Tests.{ne-eqb}
-use Rattle.world.specs.Commits.{deskAsked}
+use Rattle.locality.specs.Asked.{deskAsked}
 use Rattle.world.proofs.desk_asked.Statement.{statement}
 use Rattle.world.proofs.desk_asked.Tie as tie
 

@@ -5,11 +5,11 @@ use Rattle.rules.specs.State.{Relay, noRelay, relayAt}
 use Rattle.rules.specs.Image.{worldAt}
 use Rattle.state.specs.Meaning.{partOf}
 use Rattle.state.specs.Plans.{planned}
-use Rattle.world.specs.Narrow.{move, narrow}
-use Rattle.world.specs.Commits.{relayAsked}
-use Rattle.world.proofs.NarrowWide.{asked-wide}
-use Rattle.world.proofs.NarrowFew.{asked-few}
-use Rattle.world.proofs.NarrowFits.{shows-own}
+use Rattle.locality.specs.Narrow.{move, narrow}
+use Rattle.locality.specs.Asked.{relayAsked}
+use Rattle.locality.proofs.Wide.{asked-wide}
+use Rattle.locality.proofs.Few.{asked-few}
+use Rattle.locality.proofs.Fits.{shows-own}
 use Rattle.world.proofs.Good.{view-at}
 use Rattle.world.proofs.Routes.{none-delivered, relay-step}
 use Rattle.world.proofs.relay_acts.Statement.{statement}

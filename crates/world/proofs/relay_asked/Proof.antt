@@ -3,8 +3,8 @@ use mathlib.Core.Path.{ap, _∙_}
 use borrow.Author.Tests.{ne-eqb}
 use Rattle.rules.specs.State.{noRelay}
 use Rattle.state.specs.Plans.{planned}
-use Rattle.world.specs.Commits.{relayAsked}
-use Rattle.world.proofs.NarrowFits.{join-fits, timer-fits}
+use Rattle.locality.specs.Asked.{relayAsked}
+use Rattle.locality.proofs.Fits.{join-fits, timer-fits}
 use Rattle.world.proofs.relay_asked.Statement.{statement}
 use Rattle.world.proofs.relay_asked.Tie as tie
 

@@ -9,7 +9,7 @@ use Rattle.rules.specs.Steps.{relayDoes}
 use Rattle.rules.specs.Image.{worldAt}
 use Rattle.state.specs.Meaning.{partOf, sendingOf}
 use Rattle.state.specs.Plans.{planOf}
-use Rattle.world.specs.Narrow.{widened}
+use Rattle.locality.specs.Narrow.{widened}
 use Rattle.world.specs.Commits.{relayLeft}
 use Rattle.world.proofs.Good.{shaped}
 use Rattle.world.proofs.Commit.{plan-refuses, relay-crowded, relay-unseated, relay-done, sent-two}

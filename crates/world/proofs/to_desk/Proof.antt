@@ -9,7 +9,7 @@ use Rattle.rules.specs.Desks.{deskHears}
 use Rattle.rules.specs.Image.{worldAt}
 use Rattle.state.specs.Meaning.{bodyOf, messageOf}
 use Rattle.state.specs.Plans.{planned}
-use Rattle.world.proofs.NarrowFew.{desk-few}
+use Rattle.locality.proofs.Few.{desk-few}
 use Rattle.world.proofs.Good.{desk-at}
 use Rattle.world.proofs.Routes.{held-delivered, to-desk-left}
 use Rattle.world.proofs.to_desk.Statement.{statement}

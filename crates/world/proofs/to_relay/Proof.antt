@@ -6,10 +6,10 @@ use Rattle.rules.specs.Relays.{relayHears}
 use Rattle.rules.specs.Image.{worldAt}
 use Rattle.state.specs.Meaning.{bodyOf, messageOf}
 use Rattle.state.specs.Plans.{planned}
-use Rattle.world.specs.Narrow.{generatorOfBody, moveOfBody, narrow}
-use Rattle.world.proofs.NarrowWide.{hears-wide}
-use Rattle.world.proofs.NarrowFew.{hears-few}
-use Rattle.world.proofs.NarrowFits.{hears-fits}
+use Rattle.locality.specs.Narrow.{generatorOfBody, moveOfBody, narrow}
+use Rattle.locality.proofs.Wide.{hears-wide}
+use Rattle.locality.proofs.Few.{hears-few}
+use Rattle.locality.proofs.Fits.{hears-fits}
 use Rattle.world.proofs.Good.{good-relay}
 use Rattle.world.proofs.Routes.{held-delivered, held-good, to-relay-left}
 use Rattle.world.proofs.to_relay.Statement.{statement}

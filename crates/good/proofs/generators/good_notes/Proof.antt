@@ -2,15 +2,15 @@
 use mathlib.Core.Path.{_≡_, sym, _∙_}
 use mathlib.Core.List.{List, [], map}
 use Prim.Native.Nat.{ℕ, _-_}
-use lib.ListN.{List·getD-map, length, getD, length-map}
+use lib.ListN.{length, getD, length-map}
 use borrow.Author.Needs.{needs}
 use borrow.Author.Tests.{eq-eqb}
 use Rattle.rows.proofs.All.{Passed, passed-none, passed-more, passed-all, passed-fails}
 use Rattle.rows.specs.Tests.{all}
-use Rattle.views.specs.declared.Sequence.{Sequence}
 use Rattle.views.specs.Row.{viewsOf}
 use Rattle.rules.specs.WellFormed.{goodNote, goodNotes}
 use Rattle.state.specs.Meaning.{notesOf}
+use Rattle.image.proofs.Parts.{note-at}
 use Rattle.good.proofs.Tests.{yes, no}
 use Rattle.good.proofs.Held.{from-list}
 use Rattle.good.proofs.generators.good_notes.Statement.{statement}
@@ -21,10 +21,6 @@ Inv-loop v of i₀ i = Passed 8 (λ k. goodNote v k (getD (map viewsOf of) k [])
 
 abbrev μ-loop : tie.MeasureT-loop
 μ-loop v of i₀ i = 8 - i
-
-note-at : (qs : List Sequence) (k : ℕ) → viewsOf (getD qs k (record { views = []; len = 0 })) ≡ getD (map viewsOf qs) k []
-unfolding viewsOf
-note-at qs k = sym (List·getD-map viewsOf qs k (record { views = []; len = 0 }))
 
 -- note i is tested
 tested : (c : tie.After-good-note Inv-loop μ-loop) → let k = c .before .before .before in

@@ -4,7 +4,7 @@ use Prim.Native.Nat.{_-_, _≤_}
 use native.Mathlib.Omega.{arith}
 use borrow.Author.Needs.{needs}
 use Rattle.world.specs.Commits.{freeRows}
-use Rattle.world.proofs.Lists.{byte-one, byte-le}
+use Rattle.rules.proofs.Lists.{byte-is, byte-le}
 use Rattle.world.proofs.Places.{rows-more, rows-none}
 use Rattle.world.proofs.reads.free_places.Statement.{statement}
 use Rattle.world.proofs.reads.free_places.Tie as tie
@@ -20,7 +20,7 @@ loop-again c =
     let l = c .before .before .loop in
     let w = c .before .before .before .before .args .w .now in
     let b = c .is-free .result in
-    (rw (rows-more w (l .p), ← c .is-free .ensures, ← byte-one b, l .inv .0), omega (arith, byte-le b))
+    (rw (rows-more w (l .p), ← c .is-free .ensures, ← byte-is b, l .inv .0), omega (arith, byte-le b))
 
 returns : tie.Need-returns Inv-loop μ-loop
 returns c =

@@ -1,7 +1,7 @@
 -- `world::reads::part_at` meets its contract. Assumes nothing.
 use borrow.Author.Needs.{needs}
 use Rattle.state.specs.Meaning.{partOf}
-use Rattle.world.specs.Narrow.{move}
+use Rattle.locality.specs.Narrow.{move}
 use Rattle.world.proofs.Good.{part-is, generators-shown, transfers-shown}
 use Rattle.world.proofs.reads.part_at.Statement.{statement}
 use Rattle.world.proofs.reads.part_at.Tie as tie

@@ -6,7 +6,7 @@ use lib.ListN.{length}
 use borrow.Author.Needs.{needs}
 use Rattle.rules.specs.Sets.{bit}
 use Rattle.world.specs.Commits.{receiversBelow}
-use Rattle.world.proofs.Lists.{byte-one, byte-le}
+use Rattle.rules.proofs.Lists.{byte-is, byte-le}
 use Rattle.world.proofs.Places.{receiver-none, receiver-counted}
 use Rattle.world.proofs.reads.receivers.Statement.{statement}
 use Rattle.world.proofs.reads.receivers.Tie as tie
@@ -22,7 +22,7 @@ loop-again c =
     let l = c .before .loop in
     let m = c .before .before .args .m in
     let b = bit m (l .n) in
-    (rw (receiver-counted m (l .n), ← byte-one b, l .inv .0), omega (arith, byte-le b))
+    (rw (receiver-counted m (l .n), ← byte-is b, l .inv .0), omega (arith, byte-le b))
 
 returns : tie.Need-returns Inv-loop μ-loop
 returns c =

@@ -9,7 +9,8 @@ use Rattle.rules.specs.Sets.{inside}
 use Rattle.rules.specs.State.{Transfer}
 use Rattle.rules.specs.Image.{transferAt}
 use Rattle.state.specs.Meaning.{transferOf}
-use Rattle.world.proofs.Kept.{KeptTo, kept-none, kept-yes, kept-no, kept-all, map-set}
+use Rattle.rules.proofs.Lists.{map-set}
+use Rattle.world.proofs.Kept.{KeptTo, kept-none, kept-yes, kept-no, kept-all}
 use Rattle.world.proofs.writes.kept_transfers.Statement.{statement}
 use Rattle.world.proofs.writes.kept_transfers.Tie as tie
 

@@ -18,10 +18,10 @@ use Rattle.rules.proofs.Hold.{hold-facts}
 use Rattle.rules.proofs.Generators.{gen-facts}
 use Rattle.rules.proofs.Relays.{Rel, rel-facts}
 use Rattle.rules.proofs.Transfers.{tra-facts, move-facts}
-use Rattle.rules.proofs.ImageChange.{Changed}
-use Rattle.world.specs.Narrow.{Move, move, narrow, widened}
-use Rattle.world.proofs.NarrowTable.{byView, byMove, those-none}
-use Rattle.world.proofs.NarrowSeat.{seat, those-fewer, part-present, part-absent, put-changed, put-fits}
+use Rattle.rows.proofs.Change.{Changed}
+use Rattle.locality.specs.Narrow.{Move, move, narrow, widened}
+use Rattle.locality.proofs.Table.{byView, byMove, those-none}
+use Rattle.locality.proofs.Seat.{seat, those-fewer, part-present, part-absent, put-changed, put-fits}
 
 -- the seats of a view and of a move
 abbrev pub seatOfView : ℕ → List Generator → ℕ

@@ -17,11 +17,12 @@ use Rattle.rules.specs.Generators.{generatorFor, Turn, proposes, proposalHeard,
 use Rattle.rules.specs.Relays.{atGenerator, joinAsked, leaveAsked, timerRang, requestHeard, learns, isFor, putTransfer, passes, moved, onward, enters, tested, early, stopped, takesInstall, sentFirst, installHeard, stateHeard, serves, getHeard, putHeard, relayHears}
 use Rattle.rules.proofs.Hold.{all-none}
 use Rattle.rules.proofs.Generators.{view-of}
-use Rattle.world.specs.Narrow.{generatorOfBody, Move, move, moveOfBody, narrow}
-use Rattle.world.specs.Commits.{relayAsked}
-use Rattle.world.proofs.NarrowTurn.{Leaves, proposes-leaves, proposal-leaves, converged-leaves, keeps-move, gathers-move}
-use Rattle.world.proofs.NarrowTable.{byView, byMove, freed-move, put-keyed, those-none}
-use Rattle.world.proofs.NarrowFits.{shows-view, shows-move}
+use Rattle.relay.proofs.Laws.{sent-none}
+use Rattle.locality.specs.Narrow.{generatorOfBody, Move, move, moveOfBody, narrow}
+use Rattle.locality.specs.Asked.{relayAsked}
+use Rattle.locality.proofs.Turn.{Leaves, proposes-leaves, proposal-leaves, converged-leaves, keeps-move, gathers-move}
+use Rattle.locality.proofs.Table.{byView, byMove, freed-move, put-keyed, those-none}
+use Rattle.locality.proofs.Fits.{shows-view, shows-move}
 
 -- n shows v and m
 pub record Shows (v : ℕ) (m : Move) (n : Relay) : Type 0 where
@@ -58,10 +59,6 @@ module _ (x v : ℕ) (m : Move) where
   unfolding LocalAnswer
   first k s (refused y) h = tt
   first k s (does n ss e) h = record { shows = h .shows; freed = h .freed; few = suc-le-suc (h .few) }
-
-  none-first : (a : Answer Relay) → sentFirst [] a ≡ a
-  none-first (refused y) = refl
-  none-first (does n ss e) = refl
 
   -- what is shown, and the view stays
   module _ (n : Relay) (h : Shows v m n) (same : n .view ≡ x) where
@@ -197,7 +194,7 @@ module _ (o w : ℕ) (p : Relay) (h : Shows w (move o w) p) where
       cases (At 2) (early s p o) (λ _. refuses (p .view) w (move o w) 2 _)
       (λ _. cases (λ ss. At 2 (sentFirst ss (takesInstall s (stopped s p o w) o w q))) (member o s)
       (λ _. first (p .view) w (move o w) 1 _ _ taken)
-      (λ _. rw (none-first (p .view) w (move o w) (takesInstall s (stopped s p o w) o w q)) (more (p .view) w (move o w) 1 _ taken)))
+      (λ _. rw (sent-none (takesInstall s (stopped s p o w) o w q)) (more (p .view) w (move o w) 1 _ taken)))
 
   state-local : (from : ℕ) (q : Pair) (u : ℕ) → At 2 (stateHeard p from o w q u)
   unfolding stateHeard

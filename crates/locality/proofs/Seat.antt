@@ -3,7 +3,7 @@ use mathlib.Core.Path.{_≡_, refl, ap, _∙_}
 use mathlib.Core.Logic.{_⊎_, inl, inr, ⊎-elim}
 use mathlib.Core.Bool.{Bool, true, false}
 use mathlib.Core.List.{List, [], _∷_, _++_}
-use Prim.Native.Nat.{ℕ, zero, suc, _+_, _≤_, _<_, suc-le-suc}
+use Prim.Native.Nat.{ℕ, zero, suc, _≤_, _<_, suc-le-suc}
 use native.Mathlib.Nat.{le-of-suc-le-suc}
 use native.Mathlib.Omega.{arith}
 use lib.Dec.{leb, ltb}
@@ -13,8 +13,8 @@ use Rattle.views.proofs.Truth.{decided}
 use Rattle.rules.specs.Sets.{if_then_else_, those}
 use Rattle.rules.specs.WellFormed.{distinct}
 use Rattle.rules.proofs.Hold.{distinct-parts}
-use Rattle.rules.proofs.ImageChange.{Changed, changed-set, changed-add}
-use Rattle.world.proofs.NarrowTable.{Table, part, part-alone, put-first, put-later, those-with, those-without}
+use Rattle.rows.proofs.Change.{Changed, changed-set, changed-add}
+use Rattle.locality.proofs.Table.{Table, part, part-alone, put-first, put-later, those-with, those-without}
 
 -- the index of the first that passes the test, or the length
 unfoldable pub seat : {A : Type 0} → (A → Bool) → List A → ℕ

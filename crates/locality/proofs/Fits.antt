@@ -21,8 +21,8 @@ use Rattle.rules.proofs.Relays.{Rel, rel-facts}
 use Rattle.generator.specs.Heard.{heardInRow}
 use Rattle.generator.proofs.Whole.{in-row-whole}
 use Rattle.relay.specs.Fitting.{showsView, fitting, joinAnswer, timerAnswer, hearsInRow, hearsAnswer}
-use Rattle.world.specs.Narrow.{generatorOfBody, Move, move, moveOfBody, narrow}
-use Rattle.world.proofs.NarrowTable.{byView, byMove, part-keyed, find-part}
+use Rattle.locality.specs.Narrow.{generatorOfBody, Move, move, moveOfBody, narrow}
+use Rattle.locality.proofs.Table.{byView, byMove, part-keyed, find-part}
 
 module _ (r : Relay) (v : ℕ) (m : Move) where
   -- a part shows what it is the part for

@@ -14,7 +14,7 @@ use Rattle.rules.specs.State.{Generator, Transfer}
 use Rattle.rules.specs.Generators.{Turn, withOwn, proposes, agree, hears, settles, proposalHeard, notesConverged, raises, convergedHeard}
 use Rattle.rules.specs.Relays.{transferFor, keeps, gathers}
 use Rattle.rules.proofs.Transfers.{found-old, found-new}
-use Rattle.world.specs.Narrow.{move}
+use Rattle.locality.specs.Narrow.{move}
 
 -- t is for v, and sends at most n
 pub record Leaves (v n : ℕ) (t : Turn) : Type 0 where

@@ -16,7 +16,7 @@ use Rattle.rules.specs.Relays.{isFor, transferFor, putTransfer}
 use Rattle.rules.specs.WellFormed.{otherView, otherMove}
 use Rattle.rules.proofs.Hold.{all-none, all-parts, all-more}
 use Rattle.rules.proofs.Transfers.{for-pair}
-use Rattle.world.specs.Narrow.{Move, move, putBack}
+use Rattle.locality.specs.Narrow.{Move, move, putBack}
 
 pub record Table (A K : Type 0) : Type 0 where
   pub is : K → A → Bool

@@ -17,10 +17,10 @@ use Rattle.rules.specs.declared.Phase.the-variants.{Idle, Read1, Read2, Write1,
 use Rattle.rules.specs.Relays.{relayHears}
 use Rattle.rules.specs.Desks.{isIdle, isFirst, isSecond, full, begins, readAsked, writeAsked, current, viewCame, notesPair, notesAck, stamps, completes, counted, pairCame, ackCame, deskHears}
 use Rattle.state.specs.Plans.{noSending, sendingAt}
-use Rattle.world.specs.Narrow.{Move, widens}
-use Rattle.world.specs.Commits.{Few, relayAsked, deskAsked}
-use Rattle.world.proofs.NarrowWide.{hears-wide, asked-wide}
-use Rattle.world.proofs.NarrowLocal.{LocalAnswer, hears-local, asked-local}
+use Rattle.locality.specs.Narrow.{Move, widens}
+use Rattle.locality.specs.Asked.{Few, relayAsked, deskAsked}
+use Rattle.locality.proofs.Wide.{hears-wide, asked-wide}
+use Rattle.locality.proofs.Local.{LocalAnswer, hears-local, asked-local}
 
 -- ---- what goes out
 

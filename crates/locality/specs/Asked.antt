@@ -1,0 +1,23 @@
+-- What a step asks of a relay or a desk, and how much an answer sends at the most. Assumes nothing.
+use Prim.Native.Nat.{ℕ, _≤_}
+use lib.Dec.{eqb}
+use lib.ListN.{length}
+use Rattle.rules.specs.Sets.{if_then_else_}
+use Rattle.rules.specs.Messages.{Answer, refused, does}
+use Rattle.rules.specs.State.{Relay}
+use Rattle.rules.specs.declared.Desk.{Desk}
+use Rattle.rules.specs.Relays.{joinAsked, leaveAsked, timerRang}
+use Rattle.rules.specs.Desks.{readAsked, writeAsked}
+
+-- "1 JOIN relay, 2 LEAVE relay, 3 TIMER relay"
+unfoldable pub relayAsked : ℕ → ℕ → Relay → Answer Relay
+relayAsked kind s r = if eqb kind 1 then joinAsked s r else if eqb kind 2 then leaveAsked s r else timerRang r
+
+-- "4 READ desk, 5 WRITE desk value"
+unfoldable pub deskAsked : ℕ → ℕ → Desk → Answer Desk
+deskAsked kind x d = if eqb kind 5 then writeAsked d x else readAsked d
+
+-- it sends at most two things
+unfoldable pub Few : {A : Type 0} → Answer A → Type 0
+Few (refused x) = Unit {0}
+Few (does a ss e) = length ss ≤ 2

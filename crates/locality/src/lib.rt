@@ -1,0 +1,1 @@
+// What a rule at a relay sees and changes: proofs only
