@@ -237,14 +237,7 @@ fn desk(random: &mut Random, views: &Views, number: u8) -> Desk {
     let mut desk = Desk::start(number, views.any(random));
     desk.alive = random.below(12) > 0;
     desk.try_number = [0, 1, 2, 65_534, 65_535][random.below(5)];
-    let phases = [
-        Phase::Idle,
-        Phase::Read1,
-        Phase::Read2,
-        Phase::Write1,
-        Phase::Write2,
-    ];
-    desk.phase = phases[random.below(5)];
+    desk.phase = Phase::ALL[random.below(5)];
     let second = matches!(desk.phase, Phase::Read2 | Phase::Write2);
     if second || desk.phase == Phase::Write1 {
         desk.value = random.value();

@@ -18,6 +18,15 @@ pub enum Phase {
 }
 
 impl Phase {
+    /// In the order of their numbers.
+    pub const ALL: [Phase; 5] = [
+        Phase::Idle,
+        Phase::Read1,
+        Phase::Read2,
+        Phase::Write1,
+        Phase::Write2,
+    ];
+
     fn gets(self) -> bool {
         matches!(self, Phase::Read1 | Phase::Write1)
     }

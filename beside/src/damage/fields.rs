@@ -209,14 +209,7 @@ fn desk_unused(random: &mut Random, world: &World) -> Option<Vec<u8>> {
         let desk = &mut world.desks[usize::from(number)];
         let mut fresh = Desk::start(number, desk.view);
         fresh.try_number = desk.try_number;
-        let phases = [
-            Phase::Idle,
-            Phase::Read1,
-            Phase::Read2,
-            Phase::Write1,
-            Phase::Write2,
-        ];
-        fresh.phase = phases[random.below(5)];
+        fresh.phase = Phase::ALL[random.below(5)];
         *desk = fresh;
         let second = matches!(desk.phase, Phase::Read2 | Phase::Write2);
         let first = desk.view.members().next()?;

@@ -1,10 +1,12 @@
 -- "Checked in this order, the first that applies": the table of answers as one equation, over any world and any step. Assumes nothing.
-use mathlib.Core.Path.{_≡_, refl}
+use mathlib.Core.Path.{_≡_, refl, ap, _∙_}
 use mathlib.Core.Bool.{Bool, true, false, not}
 use mathlib.Core.List.{List, [], _∷_}
-use Prim.Native.Nat.{ℕ, _+_, _-_}
-use lib.Dec.{eqb, leb, ltb}
+use Prim.Native.Nat.{ℕ, zero, suc, _+_, _-_, _<_}
+use native.Mathlib.Omega.{arith}
+use lib.Dec.{eqb, leb, ltb, lit<}
 use lib.ListN.{length}
+use borrow.Author.Tests.{le-ltb, ne-eqb}
 use Rattle.views.proofs.Truth.{cases}
 use Rattle.rules.specs.Sets.{_&&_, _||_, if_then_else_, within, member, reaches, inside, joins, none}
 use Rattle.rules.specs.Stamps.{Pair}
@@ -15,7 +17,7 @@ use Rattle.rules.specs.Relays.{atGenerator, joinAsked, leaveAsked, timer
 use Rattle.rules.specs.Desks.{isIdle, isFirst, isSecond, full, cleared, asks, begins, readAsked, writeAsked, current, viewCame, stamps, completes, counted, pairCame, ackCame, deskHears}
 use Rattle.rules.specs.Steps.{Step, Act, join, leave, timer, read, write, deliver, drop, crash, bad, told, Outcome, refusal, roomy, relayDoes, deskDoes, aliveIn, ifAlive, freed, delivers, delivery, dropping, crashing, acts, stepped}
 use Rattle.rules.specs.Runs.{answer}
-use Rattle.rules.proofs.Table.{firstOf, isFree, isDead, receiverDead, notNow, mustWait, messageWaits, notYet, phaseWears, quorumWears, replyWears, messageWears, wornOut, heardBy, delivered, ruling, relayRoom, deskRoom, room, table, relayed, desked}
+use Rattle.rules.proofs.Table.{firstOf, outOfRange, further, isFree, isDead, receiverDead, notNow, mustWait, messageWaits, notYet, phaseWears, quorumWears, replyWears, messageWears, wornOut, heardBy, delivered, ruling, relayRoom, deskRoom, room, table, relayed, desked}
 
 -- ---- a rule refuses with NOT NOW, NOT YET or WORN, each where the three say so, the first that does
 
@@ -225,7 +227,18 @@ crashing-row : (w : World) (who : ℕ) → answer (crashing w who) ≡ 0
 unfolding crashing
 crashing-row w who = cases (λ (o : Outcome). answer o ≡ 0) (ltb who 8) (λ _. refl) (λ _. refl)
 
-acts-rows : (w : World) (a : Act) → answer (acts w a) ≡ firstOf (table w a)
+abbrev isBad : Act → Bool
+isBad (join s) = false
+isBad (leave s) = false
+isBad (timer s) = false
+isBad (read n) = false
+isBad (write n x) = false
+isBad (deliver p) = false
+isBad (drop p) = false
+isBad (crash who) = false
+isBad bad = true
+
+acts-rows : (w : World) (a : Act) → answer (acts w a) ≡ firstOf ((isBad a, 2) ∷ further w a)
 unfolding acts
 acts-rows w (join s) = alive-row w s _ (rest w (join s)) (relay-rows w 0 s _ (join-own s (relayAt w s)))
 acts-rows w (leave s) = alive-row w s _ (rest w (leave s)) (relay-rows w 0 s _ (leave-own s (relayAt w s)))
@@ -237,7 +250,31 @@ acts-rows w (drop p) = dropping-row w p (placeAt w p)
 acts-rows w (crash who) = alive-row w who _ (rest w (crash who)) (crashing-row w who)
 acts-rows w bad = refl
 
+-- what is told is bad exactly where the kind, the id or the value is out of range
+if-told : (b : Bool) (a : Act) → isBad a ≡ false → isBad (if b then a else bad) ≡ not b
+if-told true a e = e
+if-told false a e = refl
+
+in-range : (k : Step) → isBad (told k) ≡ outOfRange k
+unfolding told
+in-range k = go (k .kind) (k .id) (k .value)
+  where
+    go : (kind id x : ℕ) → isBad (told (record { kind = kind; id = id; value = x })) ≡ outOfRange (record { kind = kind; id = id; value = x })
+    go zero id x = rw (le-ltb id 0 (omega arith))
+    go (suc zero) id x = if-told (ltb id 8 && eqb x 0) (join id) refl
+    go (suc (suc zero)) id x = if-told (ltb id 8 && eqb x 0) (leave id) refl
+    go (suc (suc (suc zero))) id x = if-told (ltb id 8 && eqb x 0) (timer id) refl
+    go (suc (suc (suc (suc zero)))) id x = if-told (ltb id 4 && eqb x 0) (read id) refl
+    go (suc (suc (suc (suc (suc zero))))) id x = if-told (ltb id 4 && ltb x 4294967296) (write id x) refl
+    go (suc (suc (suc (suc (suc (suc zero)))))) id x = if-told (ltb id 256 && eqb x 0) (deliver id) refl
+    go (suc (suc (suc (suc (suc (suc (suc zero))))))) id x = if-told (ltb id 256 && eqb x 0) (drop id) refl
+    go (suc (suc (suc (suc (suc (suc (suc (suc zero)))))))) id x = if-told (ltb id 12 && eqb x 0) (crash id) refl
+    go (suc (suc (suc (suc (suc (suc (suc (suc (suc k))))))))) id x =
+        let n : ℕ = suc (suc (suc (suc (suc (suc (suc (suc (suc k)))))))) in
+        let other : (i : ℕ) → i < 9 → eqb n i ≡ false = λ i h. ne-eqb n i (λ e. omega arith) in
+        rw (other 1 (lit< tt), other 2 (lit< tt), other 3 (lit< tt), other 4 (lit< tt), other 5 (lit< tt), other 6 (lit< tt), other 7 (lit< tt), other 8 (lit< tt), le-ltb id 0 (omega arith))
+
 -- the answer of every step is the first row of the table that applies
-pub first-applies : (w : World) (k : Step) → answer (stepped w k) ≡ firstOf (table w (told k))
+pub first-applies : (w : World) (k : Step) → answer (stepped w k) ≡ firstOf (table w k)
 unfolding stepped
-first-applies w k = acts-rows w (told k)
+first-applies w k = acts-rows w (told k) ∙ ap (λ (b : Bool). firstOf ((b, 2) ∷ further w (told k))) (in-range k)

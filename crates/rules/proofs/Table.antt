@@ -3,29 +3,26 @@ use mathlib.Core.Bool.{Bool, true, false, not}
 use mathlib.Core.List.{List, [], _∷_}
 use Prim.Native.Nat.{ℕ, _+_, _-_}
 use lib.Dec.{eqb, leb, ltb}
-use lib.ListN.{length}
+use lib.ListN.{length, getD}
 use Rattle.rules.specs.Sets.{_&&_, _||_, if_then_else_, within, member, reaches, inside, joins}
 use Rattle.rules.specs.Messages.{Body, request, view, proposal, converged, install, state, get, put, viewReply, pairReply, ack, Message, outgoing, Answer, refused, does}
 use Rattle.rules.specs.State.{Desk, Phase, Idle, Read1, Read2, Write1, Write2, Relay, Place, free, waiting, World, relayAt, deskAt, placeAt}
 use Rattle.rules.specs.Relays.{joinAsked, leaveAsked, timerRang, relayHears}
 use Rattle.rules.specs.Desks.{isIdle, isFirst, isSecond, full, notesPair, notesAck, readAsked, writeAsked, current, deskHears}
-use Rattle.rules.specs.Steps.{Act, join, leave, timer, read, write, deliver, drop, crash, bad, roomy, aliveIn, freed}
+use Rattle.rules.specs.Steps.{Step, told, Act, join, leave, timer, read, write, deliver, drop, crash, bad, roomy, aliveIn, freed}
 
 -- the number of the first row that applies; 0, done, where none does
 abbrev pub firstOf : List (Bool × ℕ) → ℕ
 firstOf [] = 0
 firstOf (r ∷ rs) = if r .0 then r .1 else firstOf rs
 
-abbrev pub badStep : Act → Bool
-badStep (join s) = false
-badStep (leave s) = false
-badStep (timer s) = false
-badStep (read n) = false
-badStep (write n x) = false
-badStep (deliver p) = false
-badStep (drop p) = false
-badStep (crash who) = false
-badStep bad = true
+-- how many ids a kind of step has: 1 to 3 relays, 4 and 5 desks, 6 and 7 places, 8 relays and desks; what is no kind has none
+abbrev pub idsOf : ℕ → ℕ
+idsOf kind = getD (0 ∷ 8 ∷ 8 ∷ 8 ∷ 4 ∷ 4 ∷ 256 ∷ 256 ∷ 12 ∷ []) kind 0
+
+-- "kind, id or value out of range"; "A value other than 0 belongs to WRITE only."
+abbrev pub outOfRange : Step → Bool
+outOfRange k = not (ltb (k .id) (idsOf (k .kind)) && (if eqb (k .kind) 5 then ltb (k .value) 4294967296 else eqb (k .value) 0))
 
 -- "DELIVER or DROP of a free place"
 abbrev pub isFree : Place → Bool
@@ -187,5 +184,9 @@ room (relayed f s a) = relayRoom f s a
 room (desked f d a) = deskRoom f d a
 room unruled = true
 
-abbrev pub table : World → Act → List (Bool × ℕ)
-table w a = (badStep a, 2) ∷ (emptyPlace w a, 3) ∷ (deadOne w a, 4) ∷ (notNow w a, 5) ∷ (notYet w a, 6) ∷ (wornOut w a, 7) ∷ (not (room (ruling w a)), 8) ∷ []
+-- rows 3 to 8, of a step in range
+abbrev pub further : World → Act → List (Bool × ℕ)
+further w a = (emptyPlace w a, 3) ∷ (deadOne w a, 4) ∷ (notNow w a, 5) ∷ (notYet w a, 6) ∷ (wornOut w a, 7) ∷ (not (room (ruling w a)), 8) ∷ []
+
+abbrev pub table : World → Step → List (Bool × ℕ)
+table w k = (outOfRange k, 2) ∷ further w (told k)

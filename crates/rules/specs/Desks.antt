@@ -83,8 +83,9 @@ viewCame d from try v =
 abbrev pub agrees : Desk → Pair → Bool
 agrees d p = if eqb (d .replied) 0 then true else d .agreed && sameStamp (p .stamp) (d .best .stamp)
 
-unfoldable pub notesPair : Desk → ℕ → Pair → Desk
-notesPair d from p =
+-- `from` has replied; what that makes of the best reply and of the agreement
+abbrev pub withReply : Desk → ℕ → Pair → Bool → Desk
+withReply d from best agreed =
     record {
       alive = d .alive;
       view = d .view;
@@ -92,23 +93,16 @@ notesPair d from p =
       tries = d .tries;
       holds = d .holds;
       replied = joined (d .replied) (joins from);
-      best = greatest (d .best) p;
-      agreed = agrees d p;
+      best = best;
+      agreed = agreed;
     }
+
+unfoldable pub notesPair : Desk → ℕ → Pair → Desk
+notesPair d from p = withReply d from (greatest (d .best) p) (agrees d p)
 
 -- "an acknowledgement sets only who replied."
 unfoldable pub notesAck : Desk → ℕ → Desk
-notesAck d from =
-    record {
-      alive = d .alive;
-      view = d .view;
-      phase = d .phase;
-      tries = d .tries;
-      holds = d .holds;
-      replied = joined (d .replied) (joins from);
-      best = d .best;
-      agreed = d .agreed;
-    }
+notesAck d from = withReply d from (d .best) (d .agreed)
 
 -- ---- "At a quorum of replies: write 1 takes (greatest count + 1, own number) and starts write 2; write 2 ends, event 3;
 -- read 1 ends with event 2 if all stamps agreed, else read 2 puts back the greatest; read 2 ends, event 2."

@@ -17,8 +17,8 @@ use Rattle.safety.proofs.Past.{now, back, past-has, justified, sound-pa
 use Rattle.safety.proofs.Entries.{older, past-kind}
 use Rattle.safety.proofs.Operations.{settle-once}
 use Rattle.safety.proofs.Growth.{Since, stay, add, since-has, one-more, Plain, active-since}
-use Rattle.safety.proofs.DeskFacts.{Done}
-use Rattle.safety.proofs.Dates.{Times, noted, noted-here, noted-other, Dates, dates-none, dates-plain, dates-on, begun-before, dates-begin, dates-finish, done-more}
+use Rattle.safety.proofs.DeskFacts.{Done, done-more}
+use Rattle.safety.proofs.Dates.{Times, noted, noted-here, noted-other, Dates, dates-none, dates-plain, dates-on, begun-before, dates-begin, dates-finish}
 
 -- an operation of the log in the history's words
 abbrev pub told : Times → Times → Op → Operation

@@ -14,7 +14,7 @@ use Rattle.safety.proofs.Log.{Task, Op, Entry, tag, Log, _∋_, begin, 
 use Rattle.safety.proofs.Past.{Past, now, back, here}
 use Rattle.safety.proofs.Entries.{older, past-kind}
 use Rattle.safety.proofs.Growth.{Since, stay, add, Plain}
-use Rattle.safety.proofs.DeskFacts.{Done}
+use Rattle.safety.proofs.DeskFacts.{Done, done-more}
 
 abbrev pub Times : Type 0
 Times = ℕ → ℕ → ℕ
@@ -73,9 +73,6 @@ past-cases {e} {f} {l} {m} (back {e = g} p) = go (past-cases p)
     go : ((g ≡ e) × ((f ∷ m) ≡ l)) ⊎ Past l (g ∷ f ∷ m) → ((f ≡ e) × (m ≡ l)) ⊎ Past l (f ∷ m)
     go (inl h) = inr (subst (λ (x : Log). Past l x) (sym (h .1)) now)
     go (inr q) = inr (back q)
-
-pub done-more : {l : Log} {e : Entry} {d t : ℕ} → Done l d t → Done (e ∷ l) d t
-done-more h = (h .0, List·Memᴰ·tail (h .1), h .2, h .3)
 
 -- ---- an entry that neither begins nor ends an operation
 

@@ -98,7 +98,7 @@ module _ {l : Log} {d n : ℕ} where
   tries-up : Tries l d n → Tries l d (suc n)
   tries-up t k h = omega (arith, t k h)
 
-done-more : {l : Log} {e : Entry} {d m : ℕ} → Done l d m → Done (e ∷ l) d m
+pub done-more : {l : Log} {e : Entry} {d m : ℕ} → Done l d m → Done (e ∷ l) d m
 done-more h = (h .0, List·Memᴰ·tail (h .1), h .2, h .3)
 
 done-later : {l : Log} {e : Entry} {d m : ℕ} {A : Type 0} → A ⊎ Done l d m → A ⊎ Done (e ∷ l) d m

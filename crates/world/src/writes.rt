@@ -2,7 +2,7 @@
 ghost use mathlib.Core.Path.{_≡_};
 ghost use mathlib.Core.Bool.{true};
 ghost use mathlib.Core.List.{map};
-ghost use Prim.Native.Nat.{ℕ, _<_};
+ghost use Prim.Native.Nat.{ℕ, _+_, _≤_, _<_};
 ghost use lib.Dec.{leb};
 ghost use lib.ListN.{length, getD};
 ghost use Rattle.rows.specs.Bytes.{placed, table};
@@ -102,11 +102,9 @@ fn kept_transfers(w: &[u8], at: usize, v: u16) -> Kept
 }
 
 fn put_kept(w: &mut [u8], at: usize, kept: Kept)
+    requires { ⌜ at + 640 ≤ length (now w) ⌝ }
     ensures { λ _. ⌜ now (w .exit) ≡ placed (now (w .entry)) at (table transferBytes (freshTransfer 0 0) 8 (map transferOf (kept .of))) ⌝ }
 {
-    if !rows::has_room(w.len(), at, 640) {
-        return;
-    }
     let of = kept.of;
     for i in 0..8usize {
         let t = of[i];

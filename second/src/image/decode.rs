@@ -165,14 +165,7 @@ fn transfer(mut row: Fields<'_>) -> Option<Transfer> {
 
 fn desk(number: u8, mut row: Fields<'_>) -> Option<Desk> {
     let alive = row.flag()?;
-    let phases = [
-        Phase::Idle,
-        Phase::Read1,
-        Phase::Read2,
-        Phase::Write1,
-        Phase::Write2,
-    ];
-    let phase = *phases.get(usize::from(row.byte()))?;
+    let phase = *Phase::ALL.get(usize::from(row.byte()))?;
     let (view, try_number) = (row.view(), row.number());
     let Record { stamp, value } = row.record();
     let (replied, best, agreed) = (row.relays(), row.record(), row.flag()?);

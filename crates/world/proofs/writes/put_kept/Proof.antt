@@ -1,11 +1,10 @@
--- `world::writes::put_kept` meets its contract. Assumes nothing.
+-- `world::writes::put_kept` meets its contract: the transfers before i are written. Assumes nothing.
 use mathlib.Core.List.{map}
-use Prim.Native.Nat.{_+_, _*_, _-_, _≤_}
+use Prim.Native.Nat.{_-_}
 use native.Mathlib.Omega.{arith}
-use lib.ListN.{length, getD}
+use lib.ListN.{getD}
 use borrow.Author.Needs.{needs}
-use Rattle.rows.proofs.Laws.{room, no-room, Wrote, wrote-none, wrote-more, wrote-all}
-use Rattle.rows.proofs.Tables.{table-length}
+use Rattle.rows.proofs.Laws.{Wrote, wrote-none, wrote-more, wrote-all}
 use Rattle.rules.specs.Relays.{freshTransfer}
 use Rattle.rules.specs.Image.{transferBytes}
 use Rattle.rules.proofs.ImageWidths.{length-transfer}
@@ -20,27 +19,20 @@ Inv-loop w₀ at of i₀ w i = Wrote 80 8 (λ k. transferBytes (getD (map transf
 abbrev μ-loop : tie.MeasureT-loop
 μ-loop w₀ at of i₀ w i = 8 - i
 
-returns : tie.Need-returns Inv-loop μ-loop
-returns c = no-room _ _ _ (table-length transferBytes (freshTransfer 0 0) 80 8 length-transfer (map transferOf (c .before .before .before .args .kept .of))) (c .before .has-room .ensures) (c .if1 .taken)
-
-space : (c : tie.Else1 Inv-loop μ-loop) → let a = c .before .before .before .args in a .at + 640 ≤ length (a .w .now)
-space c = room (c .before .has-room .ensures) (c .if1 .left)
-
 add-put-transfer : tie.Need-add-put-transfer Inv-loop μ-loop
-add-put-transfer c = let fit = space (c .before .before .before .before .before) in omega arith
+add-put-transfer c = omega arith
 
 loop-again : tie.Need-loop-again Inv-loop μ-loop
 loop-again c =
-    let wrote = c .before .before in
-    let turn = wrote .before .before .before in
-    let e = turn .before .before .before in
-    let a = e .before .before .before .args in
-    let i = turn .before .loop .i in
-    wrote-more (λ k. length-transfer _) (space e) _ (a .at + i * 80) (turn .before .loop .inv) (turn .loop-test .taken) (omega arith)
-    (rw (kept-at (a .kept .of) i) at (wrote .put-transfer .ensures))
+    let turn = c .before .before .before .before .before in
+    wrote-more (λ k. length-transfer _) (turn .before .before .before .before .pre) _ _ (turn .before .loop .inv) (turn .loop-test .taken) (omega arith)
+    (rw (kept-at _ (turn .before .loop .i)) at (c .before .before .put-transfer .ensures))
 
-returns-2 : tie.Need-returns-2 Inv-loop μ-loop
-returns-2 c = wrote-all (λ k. length-transfer _) (space (c .before .before .before)) (c .before .loop .inv) (c .loop-test .left)
+returns : tie.Need-returns Inv-loop μ-loop
+returns c = wrote-all (λ k. length-transfer _) (c .before .before .before .before .pre) (c .before .loop .inv) (c .loop-test .left)
 
 pub put-kept-spec : {M : Type 1} → statement M
-put-kept-spec = tie.close (tie.spec Inv-loop μ-loop (λ c κs. tt) returns (λ c. wrote-none) (λ c. search needs) (λ c. search needs) (λ c. search needs) add-put-transfer (λ c κs. tt) (λ c. search needs) (λ c. search needs) loop-again (λ c. search needs) returns-2)
+put-kept-spec =
+    tie.close
+    (tie.spec Inv-loop μ-loop (λ c. wrote-none) (λ c. search needs) (λ c. search needs) (λ c. search needs)
+    add-put-transfer (λ c κs. tt) (λ c. search needs) (λ c. search needs) loop-again (λ c. search needs) returns)

@@ -6,10 +6,16 @@ use lib.ListN.{length}
 use borrow.Author.Needs.{needs}
 use borrow.Author.Tests.{not-true, not-false, ltb-true}
 use Rattle.rows.proofs.Laws.{placed-length}
+use Rattle.rules.proofs.ImageWorld.{good-length}
 use Rattle.state.specs.Meaning.{transferOf}
 use Rattle.world.proofs.Put.{moved-written, stays-written, moves-written, moves-seated}
 use Rattle.world.proofs.writes.put_transfers.Statement.{statement}
 use Rattle.world.proofs.writes.put_transfers.Tie as tie
+
+fits : tie.Need-put-kept-requires
+fits c κs =
+    let a = c .before .before .before .before .before .before .before in
+    omega (arith, good-length (a .args .w .now) (a .pre .0), a .pre .1)
 
 returns : tie.Need-returns
 returns c h =
@@ -45,6 +51,6 @@ returns-4 c h =
     ∙ moves-written (a .args .w .now) (a .pre .0) (a .args .s) (a .pre .1) (a .args .part) (t .if1 .left ∙ t .before .read-u16 .ensures) (not-false _ (u .if2 .left)) _ (low .before .transfer-seat .ensures) (low .if3 .left)
 
 pub put-transfers-spec : {M : Type 1} → statement M
-put-transfers-spec = tie.close (tie.spec (λ c. search needs) (λ c. search needs) (λ c κs. tt) (λ c. search needs) (λ c κs. search needs) (λ c. search needs) (λ c κs. tt)
+put-transfers-spec = tie.close (tie.spec (λ c. search needs) (λ c. search needs) (λ c κs. tt) (λ c. search needs) (λ c κs. search needs) (λ c. search needs) fits
     (λ c. ap length (c .before .before .put-kept .ensures) ∙ placed-length _ _ _) returns (λ c. search needs) returns-2 (λ c. search needs) (λ c κs. search needs) (λ c. search needs) returns-3
     (λ c. search needs) (λ c. search needs) (λ c. search needs) (λ c κs. tt) (λ c. ap length (c .before .before .put-transfer .ensures) ∙ placed-length _ _ _) returns-4)
