@@ -8,7 +8,10 @@ use second::sheet::read;
 use std::hint::black_box;
 
 fn main() {
-    let seeds: u64 = std::env::args().nth(1).and_then(|word| word.parse().ok()).unwrap_or(3);
+    let seeds: u64 = std::env::args()
+        .nth(1)
+        .and_then(|word| word.parse().ok())
+        .unwrap_or(3);
     let mut world = vec![0; SIZE];
     let mut told = [0; TOLD];
     let mut deepest = [0; 3];
@@ -32,5 +35,8 @@ fn main() {
             deepest[2] = deepest[2].max(depth);
         }
     }
-    println!("start {} bytes, step {} bytes, good {} bytes", deepest[0], deepest[1], deepest[2]);
+    println!(
+        "start {} bytes, step {} bytes, good {} bytes",
+        deepest[0], deepest[1], deepest[2]
+    );
 }
