@@ -1,26 +1,22 @@
 -- What the part of a good relay shows, and what the whole relay becomes: one generator and one transfer are written at their seats, or transfers are freed.
 -- Assumes nothing.
 use mathlib.Core.Path.{_≡_}
-use mathlib.Core.Logic.{_≢_}
 use mathlib.Core.Bool.{true, false}
 use mathlib.Core.List.{List, [], _∷_}
 use Prim.Native.Nat.{ℕ, _≤_, _<_}
 use lib.Dec.{eqb, leb, ltb}
 use lib.ListN.{length, getD}
-use borrow.Author.Tests.{leb-true, ne-eqb}
-use Rattle.views.proofs.Sets.{member-not-empty}
+use borrow.Author.Tests.{leb-true}
 use Rattle.rules.specs.Sets.{those, inside}
 use Rattle.rules.specs.State.{Generator, Transfer, Relay}
 use Rattle.rules.specs.Generators.{fresh}
 use Rattle.rules.specs.Relays.{freshTransfer, isFor}
-use Rattle.rules.specs.WellFormed.{goodGenerator, goodTransfer, goodGenerators, goodTransfers, goodRelay}
+use Rattle.rules.specs.WellFormed.{goodGenerators, goodTransfers, goodRelay}
 use Rattle.rules.proofs.Hold.{hold-facts}
-use Rattle.rules.proofs.Generators.{gen-facts}
 use Rattle.rules.proofs.Relays.{Rel, rel-facts}
-use Rattle.rules.proofs.Transfers.{tra-facts, move-facts}
 use Rattle.rows.proofs.Change.{Changed}
 use Rattle.locality.specs.Narrow.{Move, move, narrow, widened}
-use Rattle.locality.proofs.Table.{byView, byMove, those-none}
+use Rattle.locality.proofs.Table.{byView, byMove}
 use Rattle.locality.proofs.Seat.{seat, those-fewer, part-present, part-absent, put-changed, put-fits}
 
 -- the seats of a view and of a move
@@ -31,12 +27,6 @@ abbrev pub seatOfMove : Move → List Transfer → ℕ
 seatOfMove m ts = seat (isFor (m .old) (m .new)) ts
 
 -- ---- what the part of a good relay shows
-
-some-view : (s : ℕ) (g : Generator) → goodGenerator s g ≡ true → g .view ≢ 0
-some-view s g e = member-not-empty (g .view) s (gen-facts s g e .owner)
-
-some-old : (s : ℕ) (t : Transfer) → goodTransfer s t ≡ true → t .old ≢ 0
-some-old s t e = move-facts (t .old) (t .new) (tra-facts s t e .move) .some
 
 module _ (s : ℕ) (r : Relay) (good : goodRelay s r ≡ true) where
   rel : Rel s r
@@ -49,17 +39,6 @@ module _ (s : ℕ) (r : Relay) (good : goodRelay s r ≡ true) where
   pub transfers-fit : length (r .transfers) ≤ 8
   unfolding goodRelay goodTransfers
   transfers-fit = leb-true _ _ (hold-facts _ (hold-facts _ good .1 .1 .1 .1 .1 .1 .1 .0) .0)
-
-  -- no generator is for the view 0, no transfer is from it
-  pub no-generator : (m : Move) → narrow r 0 m .generators ≡ []
-  unfolding narrow
-  no-generator m =
-      those-none (goodGenerator s) (λ g. eqb (g .view) 0) (λ g e. ne-eqb (g .view) 0 (some-view s g e)) (r .generators) (rel .generators)
-
-  pub no-transfer : (v w : ℕ) → narrow r v (move 0 w) .transfers ≡ []
-  unfolding narrow
-  no-transfer v w =
-      those-none (goodTransfer s) (isFor 0 w) (λ t e. rw (ne-eqb (t .old) 0 (some-old s t e))) (r .transfers) (rel .transfers)
 
   module _ (v : ℕ) (m : Move) where
     pub generator-there : seatOfView v (r .generators) < length (r .generators) → narrow r v m .generators ≡ getD (r .generators) (seatOfView v (r .generators)) (fresh 0) ∷ []

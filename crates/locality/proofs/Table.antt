@@ -149,7 +149,7 @@ module _ {A K : Type 0} (T : Table A K) (k : K) where
     by-first : (T .is k x ≡ true → P (x ∷ part xs)) → (T .is k x ≡ false → P (part xs)) → P (part (x ∷ xs))
     by-first f g = ⊎-elim (λ e. rw (those-with (T .is k) x xs e) (f e)) (λ e. rw (those-without (T .is k) x xs e) (g e)) (decided (T .is k x))
 
-  -- all of it has that key, and it is [] or one element
+  -- all of it has that key; past one that has it, where all differ, none is shown
   pub part-keyed : (xs : List A) → all (T .is k) (part xs) ≡ true
   part-keyed [] = unfold those in all-none (T .is k)
   part-keyed (x ∷ xs) = by-first (λ l. all (T .is k) l ≡ true) x xs (λ e. all-more (T .is k) x (part xs) e (part-keyed xs)) (λ e. part-keyed xs)

@@ -10,7 +10,7 @@ use lib.Seq.{drop-cons}
 use borrow.Author.Tests.{lt-ltb, le-ltb}
 use Rattle.rules.specs.Runs.{digits, decimal, line}
 
--- a number of at most k digits has no more of them for a greater bound
+-- a number of at most k + 1 digits has no more of them for a greater bound
 enough : (k n : ℕ) → n < 10 ^ suc k → digits (suc (suc k)) n ≡ digits (suc k) n
 unfolding digits
 enough zero n h = rw (lt-ltb n 10 h)

@@ -39,7 +39,7 @@ holds-number (suc n) l o x small h =
     let low = holds-byte l (o + n) (x % 256) [] (holds-right l (bytesOf n (x / 256)) (x % 256 ∷ []) o n (length-bytesOf n (x / 256)) h) in
     rw (high, low) (omega arith)
 
--- the bytes of a number, and what is written of it, read as that number
+-- the bytes of a number, read as that number
 pub number-back : (n x : ℕ) → x < 256 ^ n → numberAt n (bytesOf n x) 0 ≡ x
 number-back n x small = holds-number n (bytesOf n x) 0 x small (holds-self (bytesOf n x))
 
@@ -59,7 +59,7 @@ unfolding bytesOf zeros run
 zeros-number zero = refl
 zeros-number (suc n) = ap (λ (l : List ℕ). l ++ (0 ∷ [])) (zeros-number n)
 
--- ---- fields: the first, those from the i-th on, and how long they are
+-- ---- a byte; fields: how long they are, where they end, and those from the i-th on
 
 pub byte-number : {x : ℕ} → Fits w8 x → bytesOf 1 x ≡ x ∷ []
 unfolding bytesOf

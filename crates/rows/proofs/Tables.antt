@@ -7,8 +7,7 @@ use native.Mathlib.Omega.{arith}
 use lib.ListN.{length, getD, drop-of-length-le}
 use lib.Seq.{ext-getD}
 use Rattle.rows.specs.Bytes.{splice, table, tab, zeros}
-use Rattle.rows.proofs.Laws.{run-inside, length-run, Holds, holds-self, holds-same, holds-run, tab-ext, tab-getD, getD-tab}
-use Rattle.rows.proofs.Held.{run-held}
+use Rattle.rows.proofs.Laws.{length-run, Holds, holds-self, holds-same, holds-run, tab-ext, tab-getD}
 
 pub splice-whole : (b v : List ℕ) → length v ≡ length b → splice b 0 v ≡ v
 unfolding splice
@@ -37,16 +36,6 @@ module _ {A : Type 0} (enc : A → List ℕ) (d : A) (w n : ℕ) (wide : (x : A)
     table-back Good back xs lx good h =
         tab-ext n (λ k. dec l (o + k * w)) (λ k. getD xs k d) (λ k p. back (o + k * w) (getD xs k d) (good k p) (table-holds l o k xs p h))
         ∙ tab-getD xs n d lx
-
-    -- the rows that are read are held
-    pub table-held : ((p : ℕ) → p + w ≤ length l → Holds l p (enc (dec l p))) → o + n * w ≤ length l
-        → Holds l o (table enc d n (tab n (λ k. dec l (o + k * w))))
-    table-held held room =
-        run-held w n o l (λ k. enc (getD (tab n row) k d)) (λ k. wide (getD (tab n row) k d)) (omega arith)
-        (λ k p. rw (getD-tab n k row d p) (held (o + k * w) (omega (arith, run-inside w k n p))))
-      where
-        row : ℕ → A
-        row k = dec l (o + k * w)
 
   -- one image, one list of rows
   pub table-injective : (Good : A → Type 0) → ((x y : A) → Good x → Good y → enc x ≡ enc y → x ≡ y)

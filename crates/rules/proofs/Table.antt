@@ -1,4 +1,5 @@
--- The table of answers, each row with document 01's own condition, over any world and any step. That the rules answer by it is in Order.antt. Assumes nothing.
+-- The table of answers, over any world and any step: rows 2 to 7 with document 01's own conditions, row 8, NO ROOM, by what the rule would send and take.
+-- That the rules answer by it is in Order.antt. Assumes nothing.
 use mathlib.Core.Bool.{Bool, true, false, not}
 use mathlib.Core.List.{List, [], _∷_}
 use Prim.Native.Nat.{ℕ, _+_, _-_}

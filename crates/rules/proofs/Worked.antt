@@ -81,8 +81,8 @@ only =
       rises = λ p m. absurd (List·Memᴰ·not-nil m);
     }
 
-pub worked : Demand3 1 steps
-worked =
+pub demand3-worked : Demand3 1 steps
+demand3-worked =
     record {
       nested = λ u v mu mv. inl (both-one u v (one-view u mu) (one-view v mv));
       order = had ∷ wrote ∷ [];

@@ -27,7 +27,6 @@ module _ (H : History) where
   -- so b is bound by q
   pub record Bound (b : ℕ) (q : List ℕ) : Type 0 where
     pub proposals : (p : List ℕ) → H .Proposed b p → q ⊆ p
-    pub proposals-chain : Chain (H .Proposed b)
     pub raised : (r : List ℕ) → H .Raised b r → q ⊆ r
     pub unopened : Opened H b → ⊥
 
@@ -101,7 +100,6 @@ module _ (H : History) (F : Facts H) where
           let chain : Chain (H .Proposed b) = λ p p′ h h′. proposals (F .origin h) (F .origin h′) in
           record {
             proposals = λ p h. proposal (F .origin h);
-            proposals-chain = chain;
             raised = λ r h v k. let g = F .agreed b chain r h in g .2 v (proposal (F .origin (g .1)) v k);
             unopened = unopened;
           }

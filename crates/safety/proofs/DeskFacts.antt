@@ -184,7 +184,6 @@ module _ {l : Log} {d n u m : ℕ} {a : Task} (k : DeskFacts l d n u (asking m a
       sends = sends-put {o = op} (List·Memᴰ·head refl) refl refl;
     }
 
-    -- or ends at once
     module _ {start : ℕ} (S : Sound start l) where
       unfinished : l ∋ finish op → ⊥
       unfinished h = let w = why S h in unsettled op (past-has (back (w .past)) (w .is .settled)) refl refl
@@ -197,6 +196,7 @@ module _ {l : Log} {d n u m : ℕ} {a : Task} (k : DeskFacts l d n u (asking m a
             (λ h. unfinished (past-kind (omega arith) (past-kind (omega arith) h)));
       }
 
+      -- or it ends at once
       pub at-once-justified : Ends (settle op ∷ l) op → Finish (settle op ∷ l) op
       at-once-justified e = record { settled = List·Memᴰ·head refl; once = λ h. unfinished (past-kind (omega arith) h); ends = e }
 

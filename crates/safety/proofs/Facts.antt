@@ -8,9 +8,9 @@ use Rattle.safety.proofs.Sequences.{_⊆_, Sequence, Above, Least, Sing
 pub record History : Type 1 where
   -- the view in which the run starts
   pub start : ℕ
-  -- the views that some server has entered
+  -- the views that some relay has entered
   pub Entered : ℕ → Type 0
-  -- the sequences that were raised in a view, and those that a server proposed there first
+  -- the sequences that were raised in a view, and those that a relay proposed there first
   pub Raised : ℕ → List ℕ → Type 0
   pub Proposed : ℕ → List ℕ → Type 0
 

@@ -1,6 +1,6 @@
 -- The log of all that ever happened, newest first, and what justifies an entry by the entries before it.
--- A view is a number (`Views.antt`) and a sequence a list of views (`Sequences.antt`). A stamp (count, desk) is the number 4 count + desk,
--- so that stamps are ordered as numbers (`Stamps.antt`). `start` is the view in which the run starts.
+-- A view is a number (views/proofs/Sets) and a sequence a list of views (`Sequences.antt`). A stamp (count, desk) is the number 4 count + desk,
+-- so that stamps are ordered as numbers (`Numbers.antt`). `start` is the view in which the run starts.
 -- Assumes nothing.
 use mathlib.Core.Path.{_≡_}
 use mathlib.Core.Logic.{_⊎_}

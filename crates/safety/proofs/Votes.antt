@@ -5,12 +5,13 @@ use mathlib.Core.List.{List}
 use Prim.Native.Nat.{ℕ}
 use Rattle.safety.proofs.Sequences.{_∈_, _⊆_, Nested, Chain}
 
--- what is gathered from the sequences of S: one of them, or the union of two that are gathered
+-- r is the union of p and q
 pub record Union (p q r : List ℕ) : Type 0 where
   pub left : p ⊆ r
   pub right : q ⊆ r
   pub from : (v : ℕ) → v ∈ r → (v ∈ p) ⊎ (v ∈ q)
 
+-- what is gathered from the sequences of S: one of them, or the union of two that are gathered
 pub data Gathered (S : List ℕ → Type 0) : List ℕ → Type 0 where
   given : {r : List ℕ} → S r → Gathered S r
   both : {p q r : List ℕ} → Gathered S p → Gathered S q → Union p q r → Gathered S r

@@ -1,16 +1,15 @@
 -- The laws of quorums. All other proofs use only these, and so do not depend on how a quorum is counted: two quorums of a view share a member of it,
--- each has a member, more relays are still a quorum, and a view without members has none. Assumes nothing.
+-- and each has a member. Assumes nothing.
 use mathlib.Core.Path.{_≡_, sym, ap, _∙_}
 use mathlib.Core.Logic.{_≢_}
-use mathlib.Core.Bool.{true, false, and-eq-true-iff}
+use mathlib.Core.Bool.{true, and-eq-true-iff}
 use Prim.Native.Nat.{ℕ, _+_, _/_, _<_, _≤_}
 use native.Mathlib.Omega.{arith}
 use lib.Bits.{bitAnd}
 use lib.Count.{ones}
 use borrow.Author.Tests.{leb-true}
 use Rattle.views.specs.View.{bitOf, membersOf, memberOf, quorumOf, reachesOf}
-use Rattle.views.proofs.Truth.{never-true, contrary}
-use Rattle.views.proofs.Digits.{member, bit-test, bit-and, bit-none}
+use Rattle.views.proofs.Digits.{member, bit-test, bit-and}
 use Rattle.views.proofs.Sets.{and-within-right, or-within, ones-within, ones-or-and, member-bit, member-lt}
 
 -- a member of v that is in both
@@ -43,8 +42,3 @@ quorums-share v a b h k =
 
 pub quorum-someone : (v a : ℕ) → reachesOf v a ≡ true → Shared v a a
 quorum-someone v a h = quorums-share v a a h h
-
-pub nobody : (v who : ℕ) → membersOf v ≡ 0 → reachesOf v who ≡ false
-nobody v who e = never-true (reachesOf v who) (λ h.
-    let s = quorum-someone v who h in
-    contrary (ap (λ (m : ℕ). bitOf m (s .relay)) (sym e) ∙ sym (member-bit v (s .relay)) ∙ s .member) (bit-none (s .relay)))

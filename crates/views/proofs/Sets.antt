@@ -42,7 +42,7 @@ within-le {a} {b} h = omega (arith, and-le-r a b, h .meets)
 pub within-empty : (a : ℕ) → Within 0 a
 within-empty a = record { meets = and-zero-l a }
 
--- the union is the least set that holds both, and the intersection the greatest that both hold
+-- the union is the least set that holds both, and the intersection is within the second
 pub within-or-left : (a b : ℕ) → Within a (bitOr a b)
 within-or-left a b = digit-within (λ i. omega (arith, digit-or i a b))
 
@@ -51,11 +51,6 @@ within-or-right a b = digit-within (λ i. omega (arith, digit-or i a b))
 
 pub or-within : {a b c : ℕ} → Within a c → Within b c → Within (bitOr a b) c
 or-within {a} {b} h k = digit-within (λ i. omega (arith, digit-or i a b, within-digit h i, within-digit k i))
-
-pub and-assoc : (a b c : ℕ) → bitAnd (bitAnd a b) c ≡ bitAnd a (bitAnd b c)
-and-assoc a b c =
-    ext (bitAnd (bitAnd a b) c) (bitAnd a (bitAnd b c))
-    (λ i. omega (arith, digit-and i (bitAnd a b) c, digit-and i a b, digit-and i a (bitAnd b c), digit-and i b c))
 
 pub and-within-right : (a b : ℕ) → Within (bitAnd a b) b
 and-within-right a b = digit-within (λ i. omega (arith, digit-and i a b))
