@@ -17,13 +17,13 @@ use Rattle.rules.specs.Steps.{Outcome, refusal, done, after, report, stepped}
 use Rattle.rules.specs.Image.{placeRow, image, goodBytes}
 use Rattle.rules.specs.Lent.{Lent, left, lentStep}
 use Rattle.rules.specs.Sheets.{stepsIn, allZerosIn, sheet, sheetIn}
-use Rattle.rules.specs.Runs.{rehearsed, outcomes, lastWorld, sentBy, deliveredBy, droppedBy, sum, answer, fields, stepLines, printed}
+use Rattle.rules.specs.Runs.{rehearsed, outcomes, lastWorld, sentBy, deliveredBy, droppedBy, sum, answer, fields, stepLines, printed, startOf, endOf}
 use Rattle.rules.specs.Examples.{recorded}
 use Rattle.rules.proofs.Kept.{good-facts, step-keeps, run-keeps, always-good}
 use Rattle.rules.proofs.Counts.{sent-is-sum}
 use Rattle.rules.proofs.ImageWidths.{length-image}
 use Rattle.rules.proofs.ImageWorld.{image-injective}
-use Rattle.record.specs.Lines.{laid, startOf, endOf}
+use Rattle.record.specs.Lines.{laid}
 use Rattle.record.proofs.Laying.{laid-front}
 use Rattle.record.proofs.Whole.{printed-is}
 use Rattle.world.specs.Answer.{lentOf, columns}

@@ -30,7 +30,7 @@ use Rattle.rules.specs.Desks.{begun, ended}
 use Rattle.rules.specs.Desks as desks
 use Rattle.rules.specs.Image.{bodyRow, sequenceBytes, sequenceAt, pairBytes, pairAt, headBytes, generatorBytes, generatorAt, transferBytes, transferAt, deskBytes, deskAt, rowBytes, rowAt, goodBytes}
 use Rattle.rules.specs.Lent.{Lent, lentStart, lentStep}
-use Rattle.rules.specs.Runs.{decimal, line, fields}
+use Rattle.rules.specs.Runs.{decimal, line, fields, startOf, endOf, badOf}
 use Rattle.rules.specs.declared.Desk.{Desk}
 use Rattle.rules.specs.declared.Phase.{Phase}
 use Rattle.rules.specs.declared.Step.{Step}
@@ -51,9 +51,9 @@ use Rattle.image.specs.Parts.{notesBytes, notesAt, headAt, messageRow}
 use Rattle.sheet.specs.Reading.{checkOf, stepAt, afterOf, takenAt}
 use Rattle.sheet.specs.Writing.{listed, writtenOf, leftOf}
 use Rattle.sheet.specs.declared.reader.Reader.{Reader}
-use Rattle.record.specs.Lines.{laid, past, startOf, stepOf, endOf, badOf}
+use Rattle.record.specs.Lines.{laid, past, stepOf}
 use Rattle.world.specs.Answer.{reportOf, lentOf}
-use Rattle.world.specs.Playing.{columnsOf, rehearsal, worldLeft, recordLeft}
+use Rattle.world.specs.Playing.{columnsOf, rehearseAnswer, worldLeft, recordLeft}
 use Rattle.world.specs.declared.Answer.{Answer}
 use Rattle.world.specs.declared.Report.{Report}
 use Rattle.world.specs.declared.Report.the-variants.{Nothing, Opened, ReadDone, WriteDone}
@@ -488,8 +488,8 @@ columns-back r s e = λ i. record { event = getD (e i) 0 0; who = getD (e i) 1 0
 pub world-columns-of : (a : Answer) → Determined (λ r. columnsOf r ≡ fields (reportOf (a .report) .event) (reportOf (a .report) .who))
 world-columns-of a r s e f = columns-back r s (e ∙ sym f)
 
-pub world-rehearse-answer : (sheet world out : List ℕ) → Determined (λ r. r ≡ rehearsal sheet world out)
-world-rehearse-answer sheet world out = by-equation (rehearsal sheet world out)
+pub world-rehearse-answer : (sheet world out : List ℕ) → Determined (λ r. r ≡ rehearseAnswer sheet world out)
+world-rehearse-answer sheet world out = by-equation (rehearseAnswer sheet world out)
 
 pub world-rehearse-last : (sheet world : List ℕ) → Determined (λ b. b ≡ worldLeft sheet world)
 world-rehearse-last sheet world = by-equation (worldLeft sheet world)

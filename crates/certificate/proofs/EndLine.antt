@@ -10,8 +10,7 @@ use lib.ListN.{drop}
 use borrow.Author.Tests.{ltb-true, ltb-false, le-ltb, lt-ltb}
 use Rattle.views.proofs.Truth.{decided}
 use Rattle.rules.specs.Sets.{if_then_else_}
-use Rattle.rules.specs.Runs.{decimal, line}
-use Rattle.record.specs.Lines.{endOf}
+use Rattle.rules.specs.Runs.{decimal, line, endOf}
 use Rattle.record.proofs.Digits.{decimal-one, decimal-more}
 
 -- a number read on from n, up to the first byte that is no digit, and what comes after that byte

@@ -9,7 +9,7 @@ use denote.Ref.{RefT, now}
 use Rattle.rows.specs.Bytes.{numberAt, run, zeros}
 use Rattle.rules.specs.Sets.{if_then_else_}
 use Rattle.rules.specs.Sheets.{mark, marked, stepIn, stepsOf, allZerosIn, stepsBytes, sheetBytes, written}
-use Rattle.rules.specs.Runs.{digits, decimal, line, start-word, bad-word}
+use Rattle.rules.specs.Runs.{digits, decimal, line, start-word, bad-word, startOf, endOf, badOf}
 use Rattle.sheet.specs.Reading.{checkOf, stepAt, afterOf, takenAt}
 use Rattle.sheet.specs.Writing.{listed, numberOf, writtenOf, leftOf}
 use Rattle.sheet.specs.declared.Sheet.{Sheet}
@@ -18,7 +18,7 @@ use Rattle.sheet.specs.declared.Found.the-variants.{At, End}
 use Rattle.sheet.specs.declared.reader.Reader.{Reader}
 use Rattle.sheet.specs.declared.reader.Taken.{Taken}
 use Rattle.sheet.specs.declared.Written.the-variants.{Done, NoRoom}
-use Rattle.record.specs.Lines.{laid, past, startOf, stepOf, endOf, badOf}
+use Rattle.record.specs.Lines.{laid, past, stepOf}
 use Rattle.certificate.proofs.Differ.{differ, itself, truth, entry}
 
 -- ---- sheet

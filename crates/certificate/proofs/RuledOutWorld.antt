@@ -14,14 +14,14 @@ use Rattle.rules.specs.Steps.{after, stepped}
 use Rattle.rules.specs.Image.{image, goodBytes}
 use Rattle.rules.specs.Lent.{Lent, lentStart, lentStep}
 use Rattle.rules.specs.Sheets.{mark, stepsOf, stepsIn, allZerosIn, sheetIn}
-use Rattle.rules.specs.Runs.{outcomes, fields, digits, line, stepLines, lastWorld, rehearsed}
+use Rattle.rules.specs.Runs.{outcomes, fields, digits, line, stepLines, lastWorld, rehearsed, startOf, endOf, badOf}
 use Rattle.rules.specs.Examples.{recorded}
 use Rattle.rules.proofs.Kept.{step-keeps}
 use Rattle.rules.proofs.ImageWidths.{length-image}
 use Rattle.rules.proofs.ImageWorld.{image-injective}
-use Rattle.record.specs.Lines.{laid, startOf, endOf, badOf}
+use Rattle.record.specs.Lines.{laid}
 use Rattle.world.specs.Answer.{reportOf, lentOf}
-use Rattle.world.specs.Playing.{told, rehearsal, worldLeft, recordLeft}
+use Rattle.world.specs.Playing.{rehearseAnswer, worldLeft, recordLeft}
 use Rattle.world.specs.declared.Answer.{Answer}
 use Rattle.world.specs.declared.Report.the-variants.{Nothing, WriteDone}
 use Rattle.world.specs.declared.run.Rehearsed.{Rehearsed}
@@ -95,8 +95,8 @@ blank = mark ++ (1 ∷ [])
 abbrev page : List ℕ
 page = replicate 20 0
 
-pub world-rehearse-answer-done-always : ¬ ((sheet world out : List ℕ) → record { answer = 0; length = length (rehearsed sheet) } ≡ rehearsal sheet world out)
-unfolding rehearsal
+pub world-rehearse-answer-done-always : ¬ ((sheet world out : List ℕ) → record { answer = 0; length = length (rehearsed sheet) } ≡ rehearseAnswer sheet world out)
+unfolding rehearseAnswer
 world-rehearse-answer-done-always p = differ (λ (r : Rehearsed). r .answer) (p blank [] page) tt
 
 -- with a world of the right length

@@ -227,7 +227,7 @@ fn ends(d: Desk, event: Event) -> DeskPlan
 
 // "write 1 takes (greatest count + 1, own number) and starts write 2"
 fn takes_stamp(n: u8, d: Desk) -> DeskPlan
-    ensures { λ r. ⌜ deskPlanOf r ≡ planned noDesk (rule.stamps n d) ⌝ }
+    ensures { λ r. ⌜ deskPlanOf r ≡ planned noDesk (rule.takesStamp n d) ⌝ }
 {
     let count = d.best.stamp.count;
     if 65535 <= count {

@@ -15,7 +15,7 @@ use Rattle.rules.specs.declared.Desk.{Desk}
 use Rattle.rules.specs.declared.Phase.{Phase}
 use Rattle.rules.specs.declared.Phase.the-variants.{Idle, Read1, Read2, Write1, Write2}
 use Rattle.rules.specs.Relays.{relayHears}
-use Rattle.rules.specs.Desks.{isIdle, isFirst, isSecond, full, begins, readAsked, writeAsked, current, viewCame, notesPair, notesAck, stamps, completes, counted, pairCame, ackCame, deskHears}
+use Rattle.rules.specs.Desks.{isIdle, isFirst, isSecond, full, begins, readAsked, writeAsked, current, viewCame, notesPair, notesAck, takesStamp, completes, counted, pairCame, ackCame, deskHears}
 use Rattle.state.specs.Plans.{noSending, sendingAt}
 use Rattle.locality.specs.Narrow.{Move, widens}
 use Rattle.locality.specs.Asked.{Few, relayAsked, deskAsked}
@@ -78,7 +78,7 @@ quiet-few d e = few-does d [] e (lit≤ tt)
 
 module _ (n : ℕ) (d : Desk) where
   completes-few : (ph : Phase) → Few (completes n d ph)
-  unfolding completes stamps
+  unfolding completes takesStamp
   completes-few Idle = quiet-few d _
   completes-few Read1 = cases Few (d .agreed) (λ _. quiet-few _ _) (λ _. begins-few d _ _ _)
   completes-few Read2 = quiet-few _ _

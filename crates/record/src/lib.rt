@@ -2,8 +2,8 @@
 // Document 01, "Sheets and the printed record".
 ghost use mathlib.Core.Path.{_≡_};
 ghost use mathlib.Core.List.{[], _∷_};
-ghost use Rattle.rules.specs.Runs.{decimal, line};
-ghost use Rattle.record.specs.Lines.{laid, past, startOf, stepOf, endOf, badOf};
+ghost use Rattle.rules.specs.Runs.{decimal, line, startOf, endOf, badOf};
+ghost use Rattle.record.specs.Lines.{laid, past, stepOf};
 
 // The largest position: no buffer reaches that far.
 const FAR: usize = 18446744073709551615;

@@ -1,5 +1,5 @@
 -- The rules at a relay, for any part and any message: what a part must show for the rule to be told by it, and the answer where it does not.
--- (In a good world every part that the world's step shows is fitting: crate world.) Assumes nothing.
+-- (In a good world every part that the world's step shows is fitting: locality/proofs/Fits.) Assumes nothing.
 use mathlib.Core.Bool.{Bool, true}
 use Prim.Native.Nat.{ℕ}
 use lib.Dec.{eqb, ltb}

@@ -14,7 +14,6 @@ ghost use Rattle.state.specs.Meaning.{transferOf, partOf, bodyOf};
 ghost use Rattle.state.specs.Plans.{turnOf, turned, planOf, planned};
 ghost use Rattle.generator.specs.Heard.{heardInRow};
 ghost use Rattle.relay.specs.Fitting.{showsView, showsBoth, ifFitting, joinAnswer, timerAnswer, hearsAnswer};
-ghost use Rattle.relay.specs.Serving.{servedBy};
 use stamps::Pair;
 use state::Body;
 use state::Event;
@@ -236,7 +235,7 @@ fn state_heard(p: Part, from: u8, o: u16, w: u16, pair: Pair, updates: u16) -> P
 
 // "NOT YET unless active and c equals the own view or is inside it. If inside: reply with the own view." If equal, the relay is `next`, and `reply` goes out.
 fn served(p: Part, next: Part, from: u8, tries: u16, c: u16, reply: Body) -> Plan
-    ensures { λ r. ⌜ planOf r ≡ planned noRelay (ifFitting (ltb from 12) (servedBy (partOf p) (partOf next) from tries c (bodyOf reply))) ⌝ }
+    ensures { λ r. ⌜ planOf r ≡ planned noRelay (ifFitting (ltb from 12) (rules.servedBy (partOf p) (partOf next) from tries c (bodyOf reply))) ⌝ }
 {
     if 12 <= from {
         return parts::refuses(2);

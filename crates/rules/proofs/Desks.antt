@@ -14,7 +14,7 @@ use Rattle.rules.specs.Sets.{_&&_, members, within, member, reaches, ins
 use Rattle.rules.specs.Stamps.{Pair, zeroPair}
 use Rattle.rules.specs.Messages.{Body, request, view, proposal, converged, install, state, get, put, viewReply, pairReply, ack, Message, Sending, toMembers, Event, nothing, readDone, writeDone, Refusal, Answer, refused, does}
 use Rattle.rules.specs.State.{Desk, Phase, Idle, Read1, Read2, Write1, Write2}
-use Rattle.rules.specs.Desks.{isIdle, isFirst, isSecond, full, cleared, asks, begins, ended, readAsked, writeAsked, current, viewCame, notesPair, notesAck, stamps, completes, counted, pairCame, ackCame, deskHears}
+use Rattle.rules.specs.Desks.{isIdle, isFirst, isSecond, full, cleared, asks, begins, ended, readAsked, writeAsked, current, viewCame, notesPair, notesAck, takesStamp, completes, counted, pairCame, ackCame, deskHears}
 use Rattle.rules.specs.WellFormed.{isStamp, isPair, isZeroPair, isDesk, goodBest, goodPhase, goodDesk, goodBody}
 use Rattle.rules.proofs.Hold.{hold-facts, hold-tests}
 use Rattle.rules.proofs.Sends.{SendWell, SendsWell, sends-none, sends-one, one-more}
@@ -136,8 +136,8 @@ module _ (n : ℕ) (desk : n < 4) where
   unfolding holdsFit
   ended-good d e h = does-well n (ended d) [] e (cleared-good d Idle (d .view) zeroPair (d .tries) (h .view) (h .tries) refl) (sends-none (8 + n))
 
-  stamps-good : (d : Desk) → Dsk d → isPair (d .best) ≡ true → isPair (d .holds) ≡ true → GoodAnswer n (stamps n d)
-  unfolding stamps holdsFit isPair
+  stamps-good : (d : Desk) → Dsk d → isPair (d .best) ≡ true → isPair (d .holds) ≡ true → GoodAnswer n (takesStamp n d)
+  unfolding takesStamp holdsFit isPair
   stamps-good d h b p =
       cases (GoodAnswer n) (full (d .best .stamp .count)) (λ e. refuses-well n _)
       (λ e.

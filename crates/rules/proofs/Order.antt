@@ -14,7 +14,7 @@ use Rattle.rules.specs.Messages.{Body, request, view, proposal, converge
 use Rattle.rules.specs.State.{Desk, Phase, Idle, Read1, Read2, Write1, Write2, Transfer, Relay, Place, free, waiting, World, relayAt, deskAt, placeAt}
 use Rattle.rules.specs.Generators.{Turn}
 use Rattle.rules.specs.Relays.{atGenerator, joinAsked, leaveAsked, timerRang, requestHeard, passes, onward, enters, tested, early, stopped, handed, takesInstall, sentFirst, installHeard, stateHeard, serves, getHeard, putHeard, relayHears}
-use Rattle.rules.specs.Desks.{isIdle, isFirst, isSecond, full, cleared, asks, begins, readAsked, writeAsked, current, viewCame, stamps, completes, counted, pairCame, ackCame, deskHears}
+use Rattle.rules.specs.Desks.{isIdle, isFirst, isSecond, full, cleared, asks, begins, readAsked, writeAsked, current, viewCame, takesStamp, completes, counted, pairCame, ackCame, deskHears}
 use Rattle.rules.specs.Steps.{Step, Act, join, leave, timer, read, write, deliver, drop, crash, bad, told, Outcome, refusal, roomy, relayDoes, deskDoes, aliveIn, ifAlive, freed, delivers, delivery, dropping, crashing, acts, stepped}
 use Rattle.rules.specs.Runs.{answer}
 use Rattle.rules.proofs.Table.{firstOf, outOfRange, further, isFree, isDead, receiverDead, notNow, mustWait, messageWaits, notYet, phaseWears, quorumWears, replyWears, messageWears, wornOut, heardBy, delivered, ruling, relayRoom, deskRoom, room, table, relayed, desked}
@@ -133,7 +133,7 @@ unfolding writeAsked
 write-own d x = unless-now (isIdle (d .phase)) (begins-own d _ _ _)
 
 completes-own : (n : ℕ) (d : Desk) (ph : Phase) → Own Desk false false (phaseWears d ph) (completes n d ph)
-unfolding completes stamps
+unfolding completes takesStamp
 completes-own n d Idle = deed
 completes-own n d Read1 = if-not (d .agreed) deed (begins-own d _ _ _)
 completes-own n d Read2 = deed

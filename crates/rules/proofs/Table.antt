@@ -73,7 +73,7 @@ notNow w (drop p) = false
 notNow w (crash who) = false
 notNow w bad = false
 
--- an install: "NOT YET exactly if the receiver is a member of o and its own view neither equals nor includes o"; "Get(try, c), Put(..): NOT YET unless active and c equals the own view or is inside it"
+-- an install: "NOT YET exactly if the receiver is a member of o and its own view neither equals nor includes o"; Get and Put: "NOT YET unless active and c equals the own view or is inside it"
 abbrev pub mustWait : ℕ → Relay → Body → Bool
 mustWait s r (install o w q) = member o s && not (eqb (r .view) o || inside o (r .view))
 mustWait s r (get try c) = not (r .active && (eqb c (r .view) || inside c (r .view)))

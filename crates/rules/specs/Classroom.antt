@@ -8,8 +8,8 @@ use Rattle.rules.specs.Sets.{_&&_, members, quorum, inside, clash, some,
 use Rattle.rules.specs.Stamps.{sign, compared, greater}
 
 pub data Example : Type 0 where
-  -- the quorum of view v is n
-  quorumIs : (v n : ℕ) → Example
+  -- view v has that many members, and its quorum is n
+  quorumIs : (v count n : ℕ) → Example
   -- the members of view v are the relays of the set m
   membersAre : (v m : ℕ) → Example
   -- kept for view v: own / converged / heard gives own
@@ -18,7 +18,7 @@ pub data Example : Type 0 where
   isAbove : (count desk count' desk' : ℕ) → Example
 
 abbrev pub holds : Example → Bool
-holds (quorumIs v n) = eqb (quorum v) n
+holds (quorumIs v count n) = eqb (ones (members v)) count && eqb (quorum v) n
 holds (membersAre v m) = eqb (members v) m
 holds (gives v own converged q new) = all (above v) (own ∷ converged ∷ q ∷ new ∷ []) && same (heard own converged q) new
 holds (isAbove c d c' d') = greater (record { count = c; desk = d }) (record { count = c'; desk = d' })
@@ -28,7 +28,7 @@ holds (isAbove c d c' d') = greater (record { count = c; desk = d }) (record { c
 -- {3,7}/none/{7} stays. Stamp (2,1) is above (2,0); (3,0) above (2,3)."
 pub examples : List Example
 examples =
-    quorumIs 1 1 ∷ quorumIs 3 2 ∷ quorumIs 7 2 ∷ quorumIs 15 3 ∷ quorumIs 255 5
+    quorumIs 1 1 1 ∷ quorumIs 3 2 2 ∷ quorumIs 7 3 2 ∷ quorumIs 15 4 3 ∷ quorumIs 255 8 5
     ∷ membersAre 1031 3
     ∷ gives 1 (3 ∷ []) [] (5 ∷ []) (7 ∷ [])
     ∷ gives 1 (3 ∷ []) (3 ∷ []) (5 ∷ []) (3 ∷ 7 ∷ [])

@@ -3,7 +3,7 @@ use mathlib.Core.Bool.{Bool, true, false, not}
 use mathlib.Core.List.{[], _∷_}
 use Prim.Native.Nat.{ℕ, _+_}
 use lib.Dec.{eqb, leb}
-use Rattle.rules.specs.Sets.{if_then_else_, _&&_, joins, joined, member, inside, reaches}
+use Rattle.rules.specs.Sets.{if_then_else_, _&&_, only, joined, member, inside, reaches}
 use Rattle.rules.specs.Stamps.{Pair, zeroPair, sameStamp, greatest}
 use Rattle.rules.specs.Messages.{Body, request, view, proposal, converged, install, state, get, put, viewReply, pairReply, ack, toMembers, readDone, writeDone, not-now, worn, Answer, refused, does, quietly, sends}
 use Rattle.rules.specs.State.{Phase, Idle, Read1, Read2, Write1, Write2, Desk}
@@ -92,7 +92,7 @@ withReply d from best agreed =
       phase = d .phase;
       tries = d .tries;
       holds = d .holds;
-      replied = joined (d .replied) (joins from);
+      replied = joined (d .replied) (only from);
       best = best;
       agreed = agreed;
     }
@@ -107,8 +107,8 @@ notesAck d from = withReply d from (d .best) (d .agreed)
 -- ---- "At a quorum of replies: write 1 takes (greatest count + 1, own number) and starts write 2; write 2 ends, event 3;
 -- read 1 ends with event 2 if all stamps agreed, else read 2 puts back the greatest; read 2 ends, event 2."
 
-unfoldable pub stamps : ℕ → Desk → Answer Desk
-stamps n d =
+unfoldable pub takesStamp : ℕ → Desk → Answer Desk
+takesStamp n d =
     if full (d .best .stamp .count)
     then refused worn
     else begins d Write2 (d .view) (record { stamp = record { count = d .best .stamp .count + 1; desk = n }; value = d .holds .value })
@@ -117,7 +117,7 @@ unfoldable pub completes : ℕ → Desk → Phase → Answer Desk
 completes n d Idle = quietly d
 completes n d Read1 = if d .agreed then does (ended d) [] (readDone (d .best)) else begins d Read2 (d .view) (d .best)
 completes n d Read2 = does (ended d) [] (readDone (d .holds))
-completes n d Write1 = stamps n d
+completes n d Write1 = takesStamp n d
 completes n d Write2 = does (ended d) [] (writeDone (d .holds))
 
 unfoldable pub counted : ℕ → Desk → Answer Desk

@@ -50,8 +50,7 @@ noted (n ∷ ns) q = noted ns q * 2 + oneIf (same n q)
 abbrev pub agree : ℕ → List (List ℕ) → List ℕ → Bool
 agree v notes q = reaches v (noted notes q)
 
--- ---- "Proposal(v, q): note it for the sender.
--- If q has a view that own lacks: [own becomes as views' `heard` says]. Send the new own to all members."
+-- ---- Proposal: "note it for the sender. If q has a view that own lacks: [..] Send the new own to all members." What own becomes is `heard` (views).
 
 unfoldable pub hears : Generator → ℕ → List ℕ → Turn
 hears g from q =

@@ -107,7 +107,7 @@ deskFields d =
 unfoldable pub deskBytes : Desk → List ℕ
 deskBytes d = cat (deskFields d)
 
--- a message with a field for everything that some kind says; what its own kind does not say is zero
+-- a message with a field for everything that some kind says; what its own kind does not say is zero in a message's row (`bodyRow`)
 pub record Row : Type 0 where
   pub kind : ℕ
   pub from : ℕ

@@ -23,11 +23,11 @@ abbrev pub left : List ℕ → Outcome → Lent
 left b (refusal x) = kept x b
 left b (done w e sent delivered dropped) = record { answer = 0; report = e; buffer = image w }
 
--- "BAD WORLD: world not good"
+-- BAD WORLD: "world not good"
 unfoldable pub lentStep : List ℕ → Step → Lent
 lentStep b k = if goodBytes b then left b (stepped (worldAt b) k) else kept bad-world b
 
--- "at a start, wrong length"; "BAD STEP: .. start mask 0". A mask above 255 is no mask of relays either.
+-- BAD WORLD: "at a start, wrong length"; BAD STEP: "start mask 0". A mask above 255 is no mask of relays either.
 unfoldable pub lentStart : List ℕ → ℕ → Lent
 lentStart b mask =
     if eqb (length b) 65536

@@ -1,7 +1,7 @@
 -- The messages, what is sent, and what a rule answers. Assumes nothing.
 use mathlib.Core.List.{List, [], _∷_, _++_, map}
-use Prim.Native.Nat.{ℕ, _^_}
-use Rattle.rules.specs.Sets.{bit, those, members, joined}
+use Prim.Native.Nat.{ℕ}
+use Rattle.rules.specs.Sets.{bit, those, members, only, joined}
 use Rattle.rules.specs.Stamps.{Pair}
 
 -- what a message says; its sender and receiver stand outside
@@ -42,7 +42,7 @@ abbrev pub toBoth : ℕ → ℕ → Body → Sending
 toBoth v w b = record { body = b; receivers = joined (members v) (members w) }
 
 abbrev pub toOne : ℕ → Body → Sending
-toOne s b = record { body = b; receivers = 2 ^ s }
+toOne s b = record { body = b; receivers = only s }
 
 -- "in the order in which the rules name them, each to its receivers in ascending order"
 unfoldable pub copies : ℕ → Sending → List Message

@@ -3,7 +3,7 @@ use mathlib.Core.Bool.{Bool, true, false, not}
 use mathlib.Core.List.{List, [], _∷_, _++_}
 use Prim.Native.Nat.{ℕ}
 use lib.Dec.{eqb}
-use Rattle.rules.specs.Sets.{if_then_else_, _&&_, _||_, joins, leaves, joined, less, member, within, inside, reaches, none, those, beyond}
+use Rattle.rules.specs.Sets.{if_then_else_, _&&_, _||_, joins, leaves, only, joined, less, member, within, inside, reaches, none, those, beyond}
 use Rattle.rules.specs.Stamps.{Pair, zeroPair, greatest}
 use Rattle.rules.specs.Messages.{Body, request, view, proposal, converged, install, state, get, put, viewReply, pairReply, ack, Sending, toMembers, toOne, opened, not-now, not-yet, Answer, refused, does, quietly, sends}
 use Rattle.rules.specs.State.{Transfer, Relay, withKnown, withPending, withActive, withHolds, withGenerators, withTransfers}
@@ -75,7 +75,7 @@ keeps t q = record { old = t .old; new = t .new; sequence = if none (t .sequence
 -- "note sender, greatest stamp with its value, updates"
 unfoldable pub gathers : Transfer → ℕ → Pair → ℕ → Transfer
 gathers t from p updates =
-    record { old = t .old; new = t .new; sequence = t .sequence; senders = joined (t .senders) (joins from); best = greatest (t .best) p; gathered = joined (t .gathered) updates }
+    record { old = t .old; new = t .new; sequence = t .sequence; senders = joined (t .senders) (only from); best = greatest (t .best) p; gathered = joined (t .gathered) updates }
 
 -- ---- "Entry test: install present and a quorum of o has sent state."
 
@@ -154,24 +154,25 @@ stateHeard r from o w p updates =
     then tested r (gathers (transferFor o w (r .transfers)) from p updates)
     else quietly r
 
--- ---- "Get(try, c), Put(try, c, stamp, value): NOT YET unless active and c equals the own view or is inside it."
+-- ---- Get and Put: "NOT YET unless active and c equals the own view or is inside it."
 
 abbrev pub serves : Relay → ℕ → Bool
 serves r c = r .active && (eqb c (r .view) || inside c (r .view))
 
--- "If inside: reply with the own view. If equal: Get replies stamp and value;"
-unfoldable pub getHeard : Relay → ℕ → ℕ → ℕ → Answer Relay
-getHeard r from try c =
+-- "If inside: reply with the own view. If equal:" the relay is `next` afterwards, and `reply` goes out
+abbrev pub servedBy : Relay → Relay → ℕ → ℕ → ℕ → Body → Answer Relay
+servedBy r next from try c reply =
     if not (serves r c) then refused not-yet
     else if inside c (r .view) then sends r (toOne from (viewReply try (r .view)) ∷ [])
-    else sends r (toOne from (pairReply try (r .holds)) ∷ [])
+    else sends next (toOne from reply ∷ [])
+
+-- "Get replies stamp and value;"
+unfoldable pub getHeard : Relay → ℕ → ℕ → ℕ → Answer Relay
+getHeard r from try c = servedBy r r from try c (pairReply try (r .holds))
 
 -- "Put stores if its stamp is greater, and acknowledges either way."
 unfoldable pub putHeard : Relay → ℕ → ℕ → ℕ → Pair → Answer Relay
-putHeard r from try c p =
-    if not (serves r c) then refused not-yet
-    else if inside c (r .view) then sends r (toOne from (viewReply try (r .view)) ∷ [])
-    else sends (withHolds r (greatest (r .holds) p)) (toOne from (ack try) ∷ [])
+putHeard r from try c p = servedBy r (withHolds r (greatest (r .holds) p)) from try c (ack try)
 
 -- ---- a message from `from` comes to the relay s. (Replies go to desks only.)
 

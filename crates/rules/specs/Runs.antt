@@ -43,6 +43,7 @@ unfoldable pub digits : ℕ → ℕ → List ℕ
 digits zero n = []
 digits (suc k) n = if ltb n 10 then (48 + n) ∷ [] else digits k (n / 10) ++ ((48 + n % 10) ∷ [])
 
+-- ten digits hold every 32-bit number
 abbrev pub decimal : ℕ → List ℕ
 decimal n = digits 10 n
 
@@ -67,7 +68,7 @@ abbrev pub answer : Outcome → ℕ
 answer (refusal x) = number x
 answer (done w e a b c) = 0
 
--- "event, who, stamp count, stamp desk, and value (events 2, 3) or view (event 1), zeros where none"
+-- "event, who, stamp count, stamp desk [..], and value (events 2, 3) or view (event 1), zeros where none"
 abbrev pub fields : Event → ℕ → List ℕ
 fields nothing who = 0 ∷ 0 ∷ 0 ∷ 0 ∷ 0 ∷ []
 fields (opened v) who = 1 ∷ who ∷ 0 ∷ 0 ∷ v ∷ []
@@ -82,17 +83,25 @@ unfoldable pub stepLines : ℕ → List Outcome → List ℕ
 stepLines i [] = []
 stepLines i (o ∷ os) = stepLine i o ++ stepLines (suc i) os
 
+-- "`start` and the mask"
+abbrev pub startOf : ℕ → List ℕ
+startOf mask = start-word ++ line (mask ∷ [])
+
 -- "last `end` with messages sent, delivered, dropped, waiting"
+abbrev pub endOf : ℕ → ℕ → ℕ → ℕ → List ℕ
+endOf sent delivered dropped waiting = end-word ++ line (sent ∷ delivered ∷ dropped ∷ waiting ∷ [])
+
 unfoldable pub printed : ℕ → List Step → List ℕ
 printed mask ks =
     let os = outcomes (start mask) ks in
-    start-word ++ line (mask ∷ [])
-    ++ stepLines 1 os
-    ++ end-word ++ line (sum sentBy os ∷ sum deliveredBy os ∷ sum droppedBy os ∷ waitingIn (lastWorld (start mask) ks .places) ∷ [])
+    startOf mask ++ (stepLines 1 os ++ endOf (sum sentBy os) (sum deliveredBy os) (sum droppedBy os) (waitingIn (lastWorld (start mask) ks .places)))
 
 -- "For BAD SHEET it prints `bad 9` only."
+abbrev pub badOf : List ℕ
+badOf = bad-word ++ line (9 ∷ [])
+
 abbrev pub rehearsal : Sheet → List ℕ
-rehearsal bad = bad-word ++ line (9 ∷ [])
+rehearsal bad = badOf
 rehearsal (sheet mask ks) = printed mask ks
 
 unfoldable pub rehearsed : List ℕ → List ℕ

@@ -19,6 +19,10 @@ joins s = 2 ^ s
 abbrev pub leaves : ℕ → ℕ
 leaves s = 2 ^ (8 + s)
 
+-- the set of s alone
+abbrev pub only : ℕ → ℕ
+only s = 2 ^ s
+
 -- all of both; those of a that are not in b
 abbrev pub joined : ℕ → ℕ → ℕ
 joined a b = bitOr a b

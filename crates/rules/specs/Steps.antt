@@ -13,7 +13,7 @@ use Rattle.rules.specs.Relays.{joinAsked, leaveAsked, timerRang, relayHe
 pub use Rattle.rules.specs.declared.Step.{Step}
 use Rattle.rules.specs.Desks.{readAsked, writeAsked, deskHears}
 
--- what it tells to do; `bad` is BAD STEP
+-- what a step tells to do; `bad` is BAD STEP
 pub data Act : Type 0 where
   join : (s : ℕ) → Act
   leave : (s : ℕ) → Act
@@ -75,7 +75,7 @@ reports (writeDone p) who = record { event = writeDone p; who = who }
 
 -- ---- committing an answer. `w` is the world with the delivered place free, if any; n is 1 for a DELIVER.
 -- NO ROOM: "the step needs more messages, generators or transfers than are free at its begin, its own delivered place counted as free"
--- (a list of generators or transfers that has grown past 8 is one that needed a place more than there was; no rule both frees and takes)
+-- (a list of generators or transfers that has grown past 8 is one that needed a place more than there was; no rule both frees and takes places of one kind)
 
 unfoldable pub roomy : World → List Message → Bool
 roomy w ms = leb (length ms) (freeIn (w .places))

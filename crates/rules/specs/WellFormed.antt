@@ -1,4 +1,4 @@
--- When a world is good, as one test: the conditions of "The world" in their order, over clean values. (That its length is right and unused room is zero
+-- When a world is good, as one test: the conditions of "The world", part by part, over clean values. (That its length is right and unused room is zero
 -- is said where a world is read from bytes.) Assumes nothing.
 use mathlib.Core.Bool.{Bool, true, false, not}
 use mathlib.Core.List.{List, [], _∷_}
@@ -9,6 +9,7 @@ use Rattle.rules.specs.Sets.{_&&_, _||_, joins, leaves, member, members,
 use Rattle.rules.specs.Stamps.{Stamp, Pair}
 use Rattle.rules.specs.Messages.{Body, request, view, proposal, converged, install, state, get, put, viewReply, pairReply, ack, Message}
 use Rattle.rules.specs.State.{Generator, Transfer, Relay, Phase, Idle, Read1, Read2, Write1, Write2, Desk, Place, free, waiting, World}
+use Rattle.rules.specs.Relays.{isFor}
 
 -- ---- "every field is in range"
 
@@ -66,7 +67,7 @@ goodGenerator s g =
     ∷ goodNotes (g .view) (g .convergences)
     ∷ [])
 
--- ---- transfers: "a filled transfer's [sequence] has its new view as least", "a transfer's [relay is a member] of its new view",
+-- ---- transfers: a sequence, "an install's or a filled transfer's has its new view as least"; the relay is a member, "a transfer's of its new view";
 -- "old views have members and are inside new ones"
 
 -- an old view and a new one
@@ -95,7 +96,7 @@ abbrev pub otherView : Generator → Generator → Bool
 otherView g h = not (eqb (g .view) (h .view))
 
 abbrev pub otherMove : Transfer → Transfer → Bool
-otherMove t u = not (eqb (t .old) (u .old) && eqb (t .new) (u .new))
+otherMove t u = not (isFor (u .old) (u .new) t)
 
 unfoldable pub goodGenerators : ℕ → List Generator → Bool
 goodGenerators s gs = allHold (leb (length gs) 8 ∷ all (goodGenerator s) gs ∷ distinct otherView gs ∷ [])
@@ -141,7 +142,7 @@ goodDesk d =
     ∷ goodPhase (d .phase) d
     ∷ [])
 
--- ---- messages: "no message's [sequence] is empty", "each message's sender and receiver are ones that its rule could name"
+-- ---- messages: of sequences, "no message's is empty"; "each message's sender and receiver are ones that its rule could name"
 
 -- from a member of v to a member of w
 abbrev pub between : ℕ → ℕ → Message → Bool

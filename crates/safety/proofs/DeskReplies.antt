@@ -18,7 +18,7 @@ use Rattle.rules.specs.Messages.{Body, request, view, proposal, converged, inst
 use Rattle.rules.specs.declared.Desk.{Desk}
 use Rattle.rules.specs.declared.Phase.{Phase}
 use Rattle.rules.specs.declared.Phase.the-variants.{Read1, Read2, Write1, Write2}
-use Rattle.rules.specs.Desks.{ended, isIdle, isFirst, isSecond, full, current, agrees, notesPair, notesAck, stamps, completes, counted, pairCame, ackCame, deskHears}
+use Rattle.rules.specs.Desks.{ended, isIdle, isFirst, isSecond, full, current, agrees, notesPair, notesAck, takesStamp, completes, counted, pairCame, ackCame, deskHears}
 use Rattle.safety.proofs.Lists.{all-none}
 use Rattle.safety.proofs.Quorums.{Most}
 use Rattle.safety.proofs.Numbers.{num, Small, Greater, takes, stays, greatest-num, greatest-small, same-num}
@@ -127,7 +127,7 @@ module _ {start : ℕ} {l : Log} {n : ℕ} (S : Sound start l) (s : n < 4) (d : 
 
   -- "write 1 takes (greatest count + 1, own number) and starts write 2"
   write1-done : {m : ℕ} → Firsts l n d → DeskFacts l n (d .tries) (d .view) (asking m (writing (d .holds .value))) → DeskDone start l n (completes n d Write1)
-  unfolding completes stamps
+  unfolding completes takesStamp
   write1-done {m} F f =
       let c : ℕ = num (d .best .stamp) in
       let r : ℕ = 4 * (c / 4 + 1) + n in

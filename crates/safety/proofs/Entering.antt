@@ -161,7 +161,7 @@ module _ {start : ℕ} {l : Log} {k : ℕ} (S : Sound start l) where
       tested-done r (keeps t q) h (keeps-tied t q (for-tied o w (h .transfers)) (rw (for-old o w (r .transfers), for-new o w (r .transfers)) p)) (rw (for-new o w (r .transfers)) i))
       (λ e. nothing-done S r h)
 
-  -- "State(o, w, ..): nothing unless the receiver's view is inside w. Else note ..; then the entry test."
+  -- State: "nothing unless the receiver's view is inside w. Else note sender, greatest stamp with its value, updates; then the entry test."
   pub state-done : (r : Relay) (from o w : ℕ) (p : Pair) (u : ℕ) → RelayTied start l k r → States l o w from (num (p .stamp)) (p .value) → Small p → u < 65536
       → RelayDone start l k (stateHeard r from o w p u)
   unfolding stateHeard gathers

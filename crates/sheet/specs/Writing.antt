@@ -14,7 +14,7 @@ listed (k ∷ ks) [] vs = []
 listed (k ∷ ks) (i ∷ is) [] = []
 listed (k ∷ ks) (i ∷ is) (v ∷ vs) = record { kind = k; id = i; value = v } ∷ listed ks is vs
 
--- document 01's number for each case: "0 done", "8 NO ROOM", "9 BAD SHEET"
+-- document 01's number for each case: 0 done, 8 NO ROOM, 9 BAD SHEET
 abbrev pub numberOf : Written → ℕ
 numberOf (Done n) = 0
 numberOf NoRoom = 8

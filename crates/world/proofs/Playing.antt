@@ -17,7 +17,7 @@ use Rattle.rules.specs.WellFormed.{wellFormed}
 use Rattle.rules.specs.Image.{image, worldAt, goodBytes}
 use Rattle.rules.specs.Lent.{Lent, left, lentStep, lentStart}
 use Rattle.rules.specs.Sheets.{bad, sheet, sheetIn, badSheet, stepsIn}
-use Rattle.rules.specs.Runs.{outcomes, lastWorld, sum, deliveredBy, droppedBy, answer, fields, stepLine, stepLines, printed, rehearsed}
+use Rattle.rules.specs.Runs.{outcomes, lastWorld, sum, deliveredBy, droppedBy, answer, fields, stepLine, stepLines, printed, rehearsed, startOf, endOf, badOf}
 use Rattle.rules.proofs.Counts.{sent-is-sum}
 use Rattle.rules.proofs.Starts.{start-good}
 use Rattle.rules.proofs.Kept.{step-keeps, always-good}
@@ -25,16 +25,16 @@ use Rattle.rules.proofs.ImageWorld.{world-fits, world-back, image-good, good-fo
 use Rattle.sheet.specs.declared.Sheet as checked
 use Rattle.sheet.specs.Reading.{checkOf, readOf, stepsFrom}
 use Rattle.sheet.proofs.Walk.{check-reads, accepted, count, sound, front}
-use Rattle.record.specs.Lines.{laid, past, far, startOf, stepOf, endOf, badOf}
+use Rattle.record.specs.Lines.{laid, past, far, stepOf}
 use Rattle.record.proofs.Laying.{laid-length, printed-first, printed-then, printed-as, Printing, printing-none, printing-more, printing-all}
-use Rattle.record.proofs.Whole.{printed-is, step-line-is, bad-is}
+use Rattle.record.proofs.Whole.{printed-is, step-line-is}
 use Rattle.world.specs.declared.Answer.{Answer}
 use Rattle.world.specs.declared.run.Columns.{Columns}
 use Rattle.world.specs.declared.run.Tally.{Tally}
 use Rattle.world.specs.declared.run.Rehearsed.{Rehearsed}
 use Rattle.world.specs.Answer.{reportOf, lentOf}
 use Rattle.world.specs.Commits.{freeRows}
-use Rattle.world.specs.Playing.{columnsOf, Turned, Ran, told, rehearsal, ranIn, worldLeft, recordLeft}
+use Rattle.world.specs.Playing.{columnsOf, Stepped, Ran, fittedOf, rehearseAnswer, ranIn, worldLeft, recordLeft}
 use Rattle.world.proofs.Places.{free-rows}
 use Rattle.world.proofs.Moves.{step-moves, few-delivered, few-dropped}
 use Rattle.world.proofs.Lengths.{rehearsed-long}
@@ -63,7 +63,7 @@ start-answered b mask a w long some small e = ap (λ (l : Lent). l .buffer) (rw 
 pub turned : (W : World) (k : Step) (number at : ℕ) (l : List ℕ) (a : Answer) (w out : List ℕ) (c : Columns) (p : ℕ)
     → Answered a (stepped W k) W w → columnsOf c ≡ fields (reportOf (a .report) .event) (reportOf (a .report) .who)
     → (p ≡ past at (stepOf number (a .number) (c .event) (c .who) (c .count) (c .desk) (c .last))) × (out ≡ laid l at (stepOf number (a .number) (c .event) (c .who) (c .count) (c .desk) (c .last)))
-    → Turned W k number at l w out (record { at = p; delivered = boolByte (eqb (a .number) 0 && eqb (k .kind) 6); dropped = boolByte (eqb (a .number) 0 && eqb (k .kind) 7) })
+    → Stepped W k number at l w out (record { at = p; delivered = boolByte (eqb (a .number) 0 && eqb (k .kind) 6); dropped = boolByte (eqb (a .number) 0 && eqb (k .kind) 7) })
 unfolding columnsOf
 turned W k number at l a w out c p h e put =
     let o : Outcome = stepped W k in
@@ -115,7 +115,7 @@ module _ {W : World} {ks : List Step} {l : List ℕ} {o : ℕ} {w out : List ℕ
   pub few : (d ≤ length ks) × (x ≤ length ks)
   few = (omega (arith, h .delivered, few-delivered W ks), omega (arith, h .dropped, few-dropped W ks))
 
-  pub running-more : (k : Step) (later : List Step) (w' out' : List ℕ) (r : Tally) → rest ≡ k ∷ later → Turned (worldAt w) k number p out w' out' r
+  pub running-more : (k : Step) (later : List Step) (w' out' : List ℕ) (r : Tally) → rest ≡ k ∷ later → Stepped (worldAt w) k number p out w' out' r
       → Running W ks l o w' out' (r .at) (d + r .delivered) (x + r .dropped) (number + 1) later
   running-more k later w' out' r e t =
       let here : World = worldAt w in
@@ -228,28 +228,28 @@ module _ (b : List ℕ) (s : checked.Sheet) (e : s ≡ checkOf b) where
 
 module _ (b w out : List ℕ) where
   abbrev Left : Rehearsed → List ℕ → List ℕ → Type 0
-  Left r w' out' = (r ≡ rehearsal b w out) × ((w' ≡ worldLeft b w) × (out' ≡ recordLeft b w out))
+  Left r w' out' = (r ≡ rehearseAnswer b w out) × ((w' ≡ worldLeft b w) × (out' ≡ recordLeft b w out))
 
   pub misfit : (length w ≡ 65536 → ⊥) → Left (record { answer = 1; length = 0 }) w out
-  unfolding rehearsal worldLeft recordLeft
+  unfolding rehearseAnswer worldLeft recordLeft
   misfit h =
       let e = ne-eqb (length w) 65536 h in
       (rw e, (rw e, rw e))
 
-  fit : (r : Rehearsed) (w' out' : List ℕ) (n : ℕ) → length w ≡ 65536 → w' ≡ ranIn w (sheetIn b) → (n ≡ past 0 (rehearsed b)) × (out' ≡ laid out 0 (rehearsed b)) → r ≡ told (length out') n → Left r w' out'
-  unfolding rehearsal worldLeft recordLeft
+  fit : (r : Rehearsed) (w' out' : List ℕ) (n : ℕ) → length w ≡ 65536 → w' ≡ ranIn w (sheetIn b) → (n ≡ past 0 (rehearsed b)) × (out' ≡ laid out 0 (rehearsed b)) → r ≡ fittedOf (length out') n → Left r w' out'
+  unfolding rehearseAnswer worldLeft recordLeft
   fit r w' out' n long ran put e =
       let t = eq-eqb (length w) 65536 long in
       let exact : n ≡ length (rehearsed b) = omega (arith, put .0, rehearsed-long b) in
       let room : length out' ≡ length out = ap length (put .1) ∙ laid-length out 0 (rehearsed b) in
       (rw t (rw (room, exact) at e), (rw t ran, rw t (put .1)))
 
-  module _ (s : checked.Sheet) (e : s ≡ checkOf b) (r : Rehearsed) (w' out' : List ℕ) (n : ℕ) (long : length w ≡ 65536) (a : r ≡ told (length out') n) where
+  module _ (s : checked.Sheet) (e : s ≡ checkOf b) (r : Rehearsed) (w' out' : List ℕ) (n : ℕ) (long : length w ≡ 65536) (a : r ≡ fittedOf (length out') n) where
     pub left-bad : s .bad ≡ true → (n ≡ past 0 badOf) × (out' ≡ laid out 0 badOf) → Left r w out'
     unfolding rehearsed
     left-bad t put =
         let f = found-bad b s e t in
-        let same : badOf ≡ rehearsed b = rw f bad-is in
+        let same : badOf ≡ rehearsed b = rw f in
         fit r w out' n long (rw f) (subst (λ (x : List ℕ). (n ≡ past 0 x) × (out' ≡ laid out 0 x)) same put) a
 
     pub left-good : s .bad ≡ false

@@ -21,7 +21,7 @@ unfoldable pub columnsOf : Columns → List ℕ
 columnsOf r = r .event ∷ r .who ∷ r .count ∷ r .desk ∷ r .last ∷ []
 
 -- the step k of W: l is the record before it, written from `at` on; w and out are the buffers after it
-pub record Turned (W : World) (k : Step) (number at : ℕ) (l w out : List ℕ) (r : Tally) : Type 0 where
+pub record Stepped (W : World) (k : Step) (number at : ℕ) (l w out : List ℕ) (r : Tally) : Type 0 where
   pub world : w ≡ image (after W (stepped W k))
   pub line : (r .at ≡ past at (stepLine number (stepped W k))) × (out ≡ laid l at (stepLine number (stepped W k)))
   pub delivered : r .delivered ≡ deliveredBy (stepped W k)
@@ -37,13 +37,13 @@ pub record Ran (W : World) (ks : List Step) (at : ℕ) (l w out : List ℕ) (r :
 -- ---- a sheet b, run in the world's buffer w, with its record in out
 
 -- NO ROOM where a record of n bytes is longer than its buffer
-unfoldable pub told : ℕ → ℕ → Rehearsed
-told room n = record { answer = if ltb room n then 8 else 0; length = n }
+unfoldable pub fittedOf : ℕ → ℕ → Rehearsed
+fittedOf room n = record { answer = if ltb room n then 8 else 0; length = n }
 
--- "BAD WORLD: [..] at a start, wrong length"
-unfoldable pub rehearsal : List ℕ → List ℕ → List ℕ → Rehearsed
-rehearsal b w out =
-    if eqb (length w) 65536 then told (length out) (length (rehearsed b)) else record { answer = 1; length = 0 }
+-- BAD WORLD: "at a start, wrong length"
+unfoldable pub rehearseAnswer : List ℕ → List ℕ → List ℕ → Rehearsed
+rehearseAnswer b w out =
+    if eqb (length w) 65536 then fittedOf (length out) (length (rehearsed b)) else record { answer = 1; length = 0 }
 
 -- a bad sheet starts nothing
 abbrev pub ranIn : List ℕ → Sheet → List ℕ

@@ -9,11 +9,11 @@ ghost use Rattle.rules.specs.Sending.{waitingIn};
 ghost use Rattle.rules.specs.WellFormed.{wellFormed};
 ghost use Rattle.rules.specs.Image.{image, worldAt, goodBytes};
 ghost use Rattle.rules.specs.Sheets.{badSheet};
-ghost use Rattle.rules.specs.Runs.{fields, lastWorld, printed};
+ghost use Rattle.rules.specs.Runs.{fields, lastWorld, printed, endOf};
 ghost use Rattle.sheet.specs.Reading.{stepsFrom};
-ghost use Rattle.record.specs.Lines.{laid, past, endOf};
+ghost use Rattle.record.specs.Lines.{laid, past};
 ghost use Rattle.world.specs.Answer.{reportOf};
-ghost use Rattle.world.specs.Playing.{columnsOf, Turned, Ran, told, rehearsal, worldLeft, recordLeft};
+ghost use Rattle.world.specs.Playing.{columnsOf, Stepped, Ran, fittedOf, rehearseAnswer, worldLeft, recordLeft};
 use super::Answer;
 use super::Report;
 use rules::Step;
@@ -79,7 +79,7 @@ struct Tally {
 // One step, and its line.
 fn turn(w: &mut [u8], out: &mut [u8], at: usize, number: u32, k: Step) -> Tally
     requires { ⌜ goodBytes (now w) ≡ true ⌝ }
-    ensures { λ r. ⌜ Turned (worldAt (now (w .entry))) k number at (now (out .entry)) (now (w .exit)) (now (out .exit)) r ⌝ }
+    ensures { λ r. ⌜ Stepped (worldAt (now (w .entry))) k number at (now (out .entry)) (now (w .exit)) (now (out .exit)) r ⌝ }
 {
     let kind = k.kind;
     let a = super::step_good(w, k);
@@ -173,7 +173,7 @@ pub struct Rehearsed {
 
 // NO ROOM where the record is longer than its buffer.
 fn fitted(length: usize, room: usize) -> Rehearsed
-    ensures { λ r. ⌜ r ≡ told room length ⌝ }
+    ensures { λ r. ⌜ r ≡ fittedOf room length ⌝ }
 {
     if room < length {
         return Rehearsed {
@@ -189,7 +189,7 @@ fn fitted(length: usize, room: usize) -> Rehearsed
 
 // What `rehearse` prints for a sheet, as much of it as fits, and the last world. BAD WORLD where that buffer has another length.
 pub fn rehearse(sheet: &[u8], world: &mut [u8], out: &mut [u8]) -> Rehearsed
-    ensures answer { λ r. ⌜ r ≡ rehearsal (now (sheet .entry)) (now (world .entry)) (now (out .entry)) ⌝ }
+    ensures answer { λ r. ⌜ r ≡ rehearseAnswer (now (sheet .entry)) (now (world .entry)) (now (out .entry)) ⌝ }
     ensures last { λ _. ⌜ now (world .exit) ≡ worldLeft (now (sheet .entry)) (now (world .entry)) ⌝ }
     ensures printed { λ _. ⌜ now (out .exit) ≡ recordLeft (now (sheet .entry)) (now (world .entry)) (now (out .entry)) ⌝ }
 {

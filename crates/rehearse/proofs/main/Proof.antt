@@ -8,16 +8,16 @@ use lib.ListN.{length, take, replicate, length-take, length-replicate}
 use borrow.Author.Needs.{needs}
 use Rattle.views.proofs.Truth.{cases}
 use Rattle.world.specs.declared.run.Rehearsed.{Rehearsed}
-use Rattle.world.specs.Playing.{told, rehearsal}
+use Rattle.world.specs.Playing.{fittedOf, rehearseAnswer}
 use Rattle.world.proofs.Lengths.{rehearsed-long}
 use Rattle.rehearse.proofs.main.Statement.{statement}
 use Rattle.rehearse.proofs.main.Tie as tie
 
-long : (b w out : List ℕ) → rehearsal b w out .length ≤ 624067
-unfolding rehearsal told
+long : (b w out : List ℕ) → rehearseAnswer b w out .length ≤ 624067
+unfolding rehearseAnswer fittedOf
 long b w out = cases (λ (r : Rehearsed). r .length ≤ 624067) (eqb (length w) 65536) (λ _. rehearsed-long b) (λ _. omega arith)
 
-fits : (b w out : List ℕ) (r : Rehearsed) (l : List ℕ) → r ≡ rehearsal b w out → length l ≡ 640000 → r .length ≤ length l
+fits : (b w out : List ℕ) (r : Rehearsed) (l : List ℕ) → r ≡ rehearseAnswer b w out → length l ≡ 640000 → r .length ≤ length l
 fits b w out r l e h = omega (arith, ap (λ (x : Rehearsed). x .length) e, long b w out)
 
 counts : (n : ℕ) (l : List ℕ) → n ≤ length l → n ≡ length (take n l)

@@ -1,12 +1,11 @@
 -- `relay::get_heard` meets its contract. Assumes nothing.
 use Rattle.rules.specs.Relays.{getHeard}
 use Rattle.state.specs.Meaning.{relayOf, partOf}
-use Rattle.relay.specs.Serving.{servedBy}
 use Rattle.relay.proofs.get_heard.Statement.{statement}
 use Rattle.relay.proofs.get_heard.Tie as tie
 
 returns : tie.Need-returns
-unfolding getHeard servedBy partOf relayOf
+unfolding getHeard partOf relayOf
 returns c = rw (c .before .pair-reply .ensures) at (c .served .ensures)
 
 pub get-heard-spec : {M : Type 1} → statement M

@@ -2,12 +2,11 @@
 use Rattle.rules.specs.State.{withHolds}
 use Rattle.rules.specs.Relays.{putHeard}
 use Rattle.state.specs.Meaning.{relayOf, partOf}
-use Rattle.relay.specs.Serving.{servedBy}
 use Rattle.relay.proofs.put_heard.Statement.{statement}
 use Rattle.relay.proofs.put_heard.Tie as tie
 
 returns : tie.Need-returns
-unfolding putHeard withHolds servedBy partOf relayOf
+unfolding putHeard withHolds partOf relayOf
 returns c = rw (c .before .ack .ensures, c .before .before .before .greatest .ensures) at (c .served .ensures)
 
 pub put-heard-spec : {M : Type 1} → statement M

@@ -4,7 +4,6 @@ use native.Mathlib.Omega.{arith}
 use borrow.Author.Tests.{lt-ltb, le-ltb, not-true, not-false}
 use Rattle.rules.specs.Messages.{bad-step, not-yet}
 use Rattle.state.specs.Meaning.{relayOf, partOf}
-use Rattle.relay.specs.Serving.{servedBy}
 use Rattle.relay.proofs.served.Statement.{statement}
 use Rattle.relay.proofs.served.Tie as tie
 
@@ -12,7 +11,7 @@ returns : tie.Need-returns
 returns c = c .refuses .ensures bad-step refl ∙ rw (le-ltb (c .before .before .args .from) 12 (c .before .if1 .taken))
 
 returns-2 : tie.Need-returns-2
-unfolding servedBy partOf relayOf
+unfolding partOf relayOf
 returns-2 c =
     let c2 = c .before .before in
     c .refuses2 .ensures not-yet refl ∙ rw (
@@ -21,7 +20,7 @@ returns-2 c =
     )
 
 returns-3 : tie.Need-returns-3
-unfolding servedBy partOf relayOf
+unfolding partOf relayOf
 returns-3 c =
     let c2 = c .before .before in
     let c5 = c2 .before .before .before in
@@ -36,7 +35,7 @@ returns-3 c =
     )
 
 returns-4 : tie.Need-returns-4
-unfolding servedBy partOf relayOf
+unfolding partOf relayOf
 returns-4 c =
     let c1 = c .before in
     let c4 = c1 .before .before .before in
