@@ -1,1 +1,1 @@
-// What a rule at a relay sees and changes: proofs only
+// What a rule at a relay sees and changes: definitions and proofs only
