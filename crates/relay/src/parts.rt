@@ -15,7 +15,7 @@ use state::Plan;
 use state::Sending;
 
 // A refusal "changes nothing": all but its number is blank.
-pub fn refuses(answer: u8) -> Plan
+pub(crate) fn refuses(answer: u8) -> Plan
     ensures { λ r. ⌜ ((x : rules.Refusal) → answer ≡ rules.number x → planOf r ≡ planned noRelay (rules.refused x)) ⌝ }
 {
     let head = Head {
@@ -44,7 +44,7 @@ pub fn refuses(answer: u8) -> Plan
     }
 }
 
-pub fn tells(p: Part, event: Event) -> Plan
+pub(crate) fn tells(p: Part, event: Event) -> Plan
     ensures { λ r. ⌜ planOf r ≡ planned noRelay (rules.does (partOf p) [] (eventOf event)) ⌝ }
 {
     let nothing = messages::no_sending();
@@ -57,20 +57,20 @@ pub fn tells(p: Part, event: Event) -> Plan
     }
 }
 
-pub fn quietly(p: Part) -> Plan
+pub(crate) fn quietly(p: Part) -> Plan
     ensures { λ r. ⌜ planOf r ≡ planned noRelay (rules.quietly (partOf p)) ⌝ }
 {
     tells(p, Event::Nothing)
 }
 
-pub fn sends(p: Part, s: Sending) -> Plan
+pub(crate) fn sends(p: Part, s: Sending) -> Plan
     ensures { λ r. ⌜ planOf r ≡ planned noRelay (rules.sends (partOf p) (sendingOf s ∷ [])) ⌝ }
 {
     sent_first(s, quietly(p))
 }
 
 // A plan that is no refusal, with a sending that the rule names first.
-pub fn sent_first(s: Sending, later: Plan) -> Plan
+pub(crate) fn sent_first(s: Sending, later: Plan) -> Plan
     ensures { λ r. ⌜ ((a : Relay) (ss : List rules.Sending) (e : rules.Event)
         → planOf later ≡ planned noRelay (rules.does a ss e) → planOf r ≡ planned noRelay (rules.does a (sendingOf s ∷ ss) e)) ⌝ }
 {
@@ -87,7 +87,7 @@ pub fn sent_first(s: Sending, later: Plan) -> Plan
 }
 
 // The generator for v; one that is absent is fresh.
-pub fn generator_for(p: Part, v: u16) -> Generator
+pub(crate) fn generator_for(p: Part, v: u16) -> Generator
     ensures { λ r. ⌜ generatorOf r ≡ generators.generatorFor v (partOf p .generators) ⌝ }
 {
     if !p.generates {
@@ -100,7 +100,7 @@ pub fn generator_for(p: Part, v: u16) -> Generator
 }
 
 // The generator that is shown, if any, is the one for v.
-pub fn shows_view(p: Part, v: u16) -> bool
+pub(crate) fn shows_view(p: Part, v: u16) -> bool
     ensures { λ r. ⌜ r ≡ showsView v (partOf p) ⌝ }
 {
     if !p.generates {
@@ -110,7 +110,7 @@ pub fn shows_view(p: Part, v: u16) -> bool
 }
 
 // The transfer that is shown, if any, is the one from o to w.
-pub fn shows_move(p: Part, o: u16, w: u16) -> bool
+pub(crate) fn shows_move(p: Part, o: u16, w: u16) -> bool
     ensures { λ r. ⌜ r ≡ showsMove o w (partOf p) ⌝ }
 {
     if !p.transfers {
@@ -123,7 +123,7 @@ pub fn shows_move(p: Part, o: u16, w: u16) -> bool
 }
 
 // Both, as what is told of a move from o to w needs them.
-pub fn shows(p: Part, o: u16, w: u16) -> bool
+pub(crate) fn shows(p: Part, o: u16, w: u16) -> bool
     ensures { λ r. ⌜ r ≡ showsBoth o w (partOf p) ⌝ }
 {
     if !shows_view(p, w) {

@@ -12,7 +12,7 @@ use state::Part;
 use state::Transfer;
 use views::Sequence;
 
-pub fn fresh(o: u16, w: u16) -> Transfer
+pub(crate) fn fresh(o: u16, w: u16) -> Transfer
     ensures { λ r. ⌜ transferOf r ≡ rules.freshTransfer o w ⌝ }
 {
     Transfer {
@@ -26,7 +26,7 @@ pub fn fresh(o: u16, w: u16) -> Transfer
 }
 
 // The transfer from o to w; one that is absent is fresh.
-pub fn transfer_for(p: Part, o: u16, w: u16) -> Transfer
+pub(crate) fn transfer_for(p: Part, o: u16, w: u16) -> Transfer
     ensures { λ r. ⌜ transferOf r ≡ rules.transferFor o w (partOf p .transfers) ⌝ }
 {
     if !p.transfers {
@@ -38,7 +38,7 @@ pub fn transfer_for(p: Part, o: u16, w: u16) -> Transfer
     p.transfer
 }
 
-pub fn with_transfer(p: Part, t: Transfer) -> Part
+pub(crate) fn with_transfer(p: Part, t: Transfer) -> Part
     ensures { λ r. ⌜ partOf r ≡ withTransfers (partOf p) (transferOf t ∷ []) ⌝ }
 {
     let mut r = p;
@@ -48,7 +48,7 @@ pub fn with_transfer(p: Part, t: Transfer) -> Part
 }
 
 // "the transfer keeps q unless it has one already"
-pub fn keeps(t: Transfer, q: Sequence) -> Transfer
+pub(crate) fn keeps(t: Transfer, q: Sequence) -> Transfer
     ensures { λ r. ⌜ transferOf r ≡ rules.keeps (transferOf t) (viewsOf q) ⌝ }
 {
     let held = t.sequence;
@@ -61,7 +61,7 @@ pub fn keeps(t: Transfer, q: Sequence) -> Transfer
 }
 
 // "Entry test: install present and a quorum of o has sent state."
-pub fn passes(t: Transfer) -> bool
+pub(crate) fn passes(t: Transfer) -> bool
     ensures { λ r. ⌜ r ≡ rules.passes (transferOf t) ⌝ }
 {
     let q = t.sequence;
@@ -72,7 +72,7 @@ pub fn passes(t: Transfer) -> bool
 }
 
 // The views above w.
-pub fn onward(t: Transfer) -> Sequence
+pub(crate) fn onward(t: Transfer) -> Sequence
     ensures { λ r. ⌜ viewsOf r ≡ rules.onward (transferOf t) ⌝ }
 {
     let q = t.sequence;
@@ -80,7 +80,7 @@ pub fn onward(t: Transfer) -> Sequence
 }
 
 // The view known after v is told.
-pub fn newer(known: u16, v: u16) -> u16
+pub(crate) fn newer(known: u16, v: u16) -> u16
     ensures { λ r. ⌜ r ≡ (if inside known v then v else known) ⌝ }
 {
     if views::inside(known, v) {
@@ -90,7 +90,7 @@ pub fn newer(known: u16, v: u16) -> u16
 }
 
 // "who keeps it as known view if the one known is inside it."
-pub fn learns(p: Part, v: u16) -> Part
+pub(crate) fn learns(p: Part, v: u16) -> Part
     ensures { λ r. ⌜ partOf r ≡ rules.learns (partOf p) v ⌝ }
 {
     let known = newer(p.head.known, v);
@@ -100,14 +100,14 @@ pub fn learns(p: Part, v: u16) -> Part
 }
 
 // The updates of a that are not in b.
-pub fn less(a: u16, b: u16) -> u16
+pub(crate) fn less(a: u16, b: u16) -> u16
     ensures { λ r. ⌜ r ≡ sets.less a b ⌝ }
 {
     a - (a & b)
 }
 
 // The part after the entry by t. "transfers whose new view does not strictly include w are freed": t is one of them.
-pub fn moved(p: Part, t: Transfer, active: bool) -> Part
+pub(crate) fn moved(p: Part, t: Transfer, active: bool) -> Part
     ensures { λ r. ⌜ partOf r ≡ rules.moved (withTransfers (partOf p) (transferOf t ∷ [])) (transferOf t) active ⌝ }
 {
     let w = t.new;
@@ -128,7 +128,7 @@ pub fn moved(p: Part, t: Transfer, active: bool) -> Part
 }
 
 // "NOT YET exactly if the receiver is a member of o and its own view neither equals nor includes o (view 0 never does)."
-pub fn early(s: u8, p: Part, o: u16) -> bool
+pub(crate) fn early(s: u8, p: Part, o: u16) -> bool
     ensures { λ r. ⌜ r ≡ rules.early s (partOf p) o ⌝ }
 {
     if !views::is_member(o, s) {
@@ -141,7 +141,7 @@ pub fn early(s: u8, p: Part, o: u16) -> bool
 }
 
 // "A member of o, if its view is inside w, stops being active;"
-pub fn stopped(s: u8, p: Part, o: u16, w: u16) -> Part
+pub(crate) fn stopped(s: u8, p: Part, o: u16, w: u16) -> Part
     ensures { λ r. ⌜ partOf r ≡ rules.stopped s (partOf p) o w ⌝ }
 {
     if !views::is_member(o, s) {
@@ -156,7 +156,7 @@ pub fn stopped(s: u8, p: Part, o: u16, w: u16) -> Part
 }
 
 // "NOT YET unless active and c equals the own view or is inside it."
-pub fn serves(p: Part, c: u16) -> bool
+pub(crate) fn serves(p: Part, c: u16) -> bool
     ensures { λ r. ⌜ r ≡ rules.serves (partOf p) c ⌝ }
 {
     if !p.head.active {
