@@ -187,7 +187,7 @@ pub fn generator_at(s: &[u8], at: usize) -> Generator
     }
 }
 
-fn put_parts(s: &mut [u8], at: usize, g: Generator)
+fn put_generator_fields(s: &mut [u8], at: usize, g: Generator)
     requires { ⌜ at + 592 ≤ length (now s) ⌝ }
     ensures { λ _. ⌜ now (s .exit) ≡ placed (now (s .entry)) at (generatorBytes (generatorOf g)) ⌝ }
 {
@@ -211,7 +211,7 @@ pub fn put_generator(s: &mut [u8], at: usize, g: Generator)
     if !rows::has_room(s.len(), at, 592) {
         return;
     }
-    put_parts(s, at, g);
+    put_generator_fields(s, at, g);
 }
 
 pub fn transfer_at(s: &[u8], at: usize) -> Transfer

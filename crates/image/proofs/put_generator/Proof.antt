@@ -8,8 +8,8 @@ use Rattle.image.proofs.put_generator.Tie as tie
 returns : tie.Need-returns
 returns c = no-room _ _ _ (length-generator _) (c .before .has-room .ensures) (c .if1 .taken)
 
-put-parts-requires : tie.Need-put-parts-requires
-put-parts-requires c κs = room (c .before .before .has-room .ensures) (c .before .if1 .left)
+put-generator-fields-requires : tie.Need-put-generator-fields-requires
+put-generator-fields-requires c κs = room (c .before .before .has-room .ensures) (c .before .if1 .left)
 
 pub put-generator-spec : {M : Type 1} → statement M
-put-generator-spec = tie.close (tie.spec (λ c κs. search needs) returns put-parts-requires (λ c. search needs) (λ c. search needs))
+put-generator-spec = tie.close (tie.spec (λ c κs. search needs) returns put-generator-fields-requires (λ c. search needs) (λ c. search needs))

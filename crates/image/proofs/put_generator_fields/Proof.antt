@@ -1,4 +1,4 @@
--- `image::put_parts` meets its contract. Assumes nothing.
+-- `image::put_generator_fields` meets its contract. Assumes nothing.
 use mathlib.Core.Path.{_∙_}
 use mathlib.Core.List.{append-assoc, append-nil}
 use native.Mathlib.Omega.{arith}
@@ -11,8 +11,8 @@ use Rattle.rules.specs.Image.{generatorBytes}
 use Rattle.state.specs.Meaning.{notesOf, generatorOf}
 use Rattle.image.specs.Parts.{notesBytes}
 use Rattle.image.proofs.Widths.{length-notes, length-sequence}
-use Rattle.image.proofs.put_parts.Statement.{statement}
-use Rattle.image.proofs.put_parts.Tie as tie
+use Rattle.image.proofs.put_generator_fields.Statement.{statement}
+use Rattle.image.proofs.put_generator_fields.Tie as tie
 
 returns : tie.Need-returns
 unfolding generatorBytes generatorOf notesBytes cat
@@ -35,8 +35,8 @@ returns c =
     let p7 = put-then _ _ p6 (length-zeros _) (omega (arith, start .pre)) (k7 .clear .ensures) in
     p7 .is ∙ simp (append-assoc, append-nil)
 
-pub put-parts-spec : {M : Type 1} → statement M
-put-parts-spec =
+pub put-generator-fields-spec : {M : Type 1} → statement M
+put-generator-fields-spec =
     tie.close
     (tie.spec
     (λ c κs. search needs) (λ c. search needs) (λ c κs. search needs) (λ c. search needs) (λ c κs. search needs) (λ c. search needs)
