@@ -17,10 +17,6 @@ ghost use Rattle.state.specs.Meaning.{bodyOf, eventOf};
 ghost use Rattle.state.specs.Plans.{planned, deskPlanOf};
 ghost use Rattle.desk.specs.Replies.{replyNoted};
 
-const NOT_NOW: u8 = 5;
-
-const WORN: u8 = 7;
-
 // A refusal "changes nothing": all but its number is blank.
 fn refuses(answer: u8) -> DeskPlan
     ensures { λ r. ⌜ ((x : Refusal) → answer ≡ number x → deskPlanOf r ≡ planned noDesk (refused x)) ⌝ }
@@ -111,7 +107,7 @@ fn begins(d: Desk, phase: Phase, v: u16, p: Pair) -> DeskPlan
     ensures { λ r. ⌜ deskPlanOf r ≡ planned noDesk (rule.begins d phase v p) ⌝ }
 {
     if 65535 <= d.tries {
-        return refuses(WORN);
+        return refuses(rules::WORN);
     }
     let next = d.begun(phase, v, p);
     let body = asks(phase, next.tries, v, p);
@@ -129,7 +125,7 @@ fn asked(d: Desk, phase: Phase, p: Pair) -> DeskPlan
 {
     let now = d.phase;
     if !is_idle(now) {
-        return refuses(NOT_NOW);
+        return refuses(rules::NOT_NOW);
     }
     begins(d, phase, d.view, p)
 }
@@ -231,7 +227,7 @@ fn takes_stamp(n: u8, d: Desk) -> DeskPlan
 {
     let count = d.best.stamp.count;
     if 65535 <= count {
-        return refuses(WORN);
+        return refuses(rules::WORN);
     }
     let stamp = Stamp {
         count: count + 1,

@@ -124,6 +124,6 @@ pub fn put_bad(out: &mut [u8]) -> usize
     ensures bytes { λ _. ⌜ now (out .exit) ≡ laid (now (out .entry)) 0 badOf ⌝ }
 {
     let at = put_word(out, 0, b"bad ");
-    let numbers = [9u32];
+    let numbers = [rules::BAD_SHEET as u32];
     put_line(out, at, &numbers)
 }

@@ -33,15 +33,15 @@ pub fn join_asked(s: u8, p: Part) -> Plan
     ensures { λ r. ⌜ planOf r ≡ planned noRelay (joinAnswer s (partOf p)) ⌝ }
 {
     if 8 <= s {
-        return parts::refuses(2);
+        return parts::refuses(rules::BAD_STEP);
     }
     if p.head.entered {
-        return parts::refuses(5);
+        return parts::refuses(rules::NOT_NOW);
     }
     let known = p.head.known;
     let u: u16 = 1 << s;
     if views::within(u, known) {
-        return parts::refuses(5);
+        return parts::refuses(rules::NOT_NOW);
     }
     parts::sends(p, messages::to_members(known, messages::request(u, known)))
 }
@@ -52,7 +52,7 @@ pub fn leave_asked(s: u8, p: Part) -> Plan
 {
     let v = p.head.view;
     if !views::is_member(v, s) {
-        return parts::refuses(5);
+        return parts::refuses(rules::NOT_NOW);
     }
     let u: u16 = 256 << s;
     parts::sends(p, messages::to_members(v, messages::request(u, v)))
@@ -65,13 +65,13 @@ pub fn timer_rang(p: Part) -> Plan
     let v = p.head.view;
     let pending = p.head.pending;
     if !parts::shows_view(p, v) {
-        return parts::refuses(2);
+        return parts::refuses(rules::BAD_STEP);
     }
     if !p.head.active {
-        return parts::refuses(5);
+        return parts::refuses(rules::NOT_NOW);
     }
     if views::within(pending, v) {
-        return parts::refuses(5);
+        return parts::refuses(rules::NOT_NOW);
     }
     let q = views::single(views::join(v, pending));
     at_generator(p, v, generator::proposes(parts::generator_for(p, v), q))
@@ -104,7 +104,7 @@ fn request_heard(p: Part, from: u8, u: u16, c: u16) -> Plan
     ensures { λ r. ⌜ planOf r ≡ planned noRelay (ifFitting (ltb from 12) (rules.requestHeard (partOf p) from u c)) ⌝ }
 {
     if 12 <= from {
-        return parts::refuses(2);
+        return parts::refuses(rules::BAD_STEP);
     }
     if !p.head.entered {
         return parts::quietly(p);
@@ -130,7 +130,7 @@ fn sequence_heard(p: Part, from: u8, v: u16, q: Sequence, converged: bool) -> Pl
         let g = generatorFor v (partOf p .generators) in if converged then convergedHeard g from (viewsOf q) else heardInRow g from (viewsOf q)))) ⌝ }
 {
     if !parts::shows_view(p, v) {
-        return parts::refuses(2);
+        return parts::refuses(rules::BAD_STEP);
     }
     let g = parts::generator_for(p, v);
     if converged {
@@ -185,10 +185,10 @@ fn install_heard(s: u8, p: Part, o: u16, w: u16, q: Sequence) -> Plan
     ensures { λ r. ⌜ planOf r ≡ planned noRelay (ifFitting (showsBoth o w (partOf p)) (rules.installHeard s (partOf p) o w (viewsOf q))) ⌝ }
 {
     if !parts::shows(p, o, w) {
-        return parts::refuses(2);
+        return parts::refuses(rules::BAD_STEP);
     }
     if transfers::early(s, p, o) {
-        return parts::refuses(6);
+        return parts::refuses(rules::NOT_YET);
     }
     let later = takes_install(s, transfers::stopped(s, p, o, w), o, w, q);
     if !views::is_member(o, s) {
@@ -217,10 +217,10 @@ fn state_heard(p: Part, from: u8, o: u16, w: u16, pair: Pair, updates: u16) -> P
     ensures { λ r. ⌜ planOf r ≡ planned noRelay (ifFitting (ltb from 8 && showsBoth o w (partOf p)) (rules.stateHeard (partOf p) from o w pair updates)) ⌝ }
 {
     if 8 <= from {
-        return parts::refuses(2);
+        return parts::refuses(rules::BAD_STEP);
     }
     if !parts::shows(p, o, w) {
-        return parts::refuses(2);
+        return parts::refuses(rules::BAD_STEP);
     }
     if !views::inside(p.head.view, w) {
         return parts::quietly(p);
@@ -238,10 +238,10 @@ fn served(p: Part, next: Part, from: u8, tries: u16, c: u16, reply: Body) -> Pla
     ensures { λ r. ⌜ planOf r ≡ planned noRelay (ifFitting (ltb from 12) (rules.servedBy (partOf p) (partOf next) from tries c (bodyOf reply))) ⌝ }
 {
     if 12 <= from {
-        return parts::refuses(2);
+        return parts::refuses(rules::BAD_STEP);
     }
     if !transfers::serves(p, c) {
-        return parts::refuses(6);
+        return parts::refuses(rules::NOT_YET);
     }
     let v = p.head.view;
     if views::inside(c, v) {

@@ -2,6 +2,25 @@
 ghost use mathlib.Core.Path.{_≡_};
 ghost use Rattle.rules.specs.Desks.{cleared, begun, ended};
 
+// Document 01's table of answers numbers them.
+pub const BAD_WORLD: u8 = 1;
+
+pub const BAD_STEP: u8 = 2;
+
+pub const EMPTY: u8 = 3;
+
+pub const DEAD: u8 = 4;
+
+pub const NOT_NOW: u8 = 5;
+
+pub const NOT_YET: u8 = 6;
+
+pub const WORN: u8 = 7;
+
+pub const NO_ROOM: u8 = 8;
+
+pub const BAD_SHEET: u8 = 9;
+
 // A step as a sheet has it.
 pub struct Step {
     pub kind: u8,

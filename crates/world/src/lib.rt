@@ -100,10 +100,10 @@ fn relay_commits(w: &mut [u8], s: u8, p: usize, plan: Plan) -> Answer
         return refuses(answer);
     }
     if !reads::has_room(w, p, first.receivers, second.receivers) {
-        return refuses(8);
+        return refuses(rules::NO_ROOM);
     }
     if !reads::has_seats(w, s, part) {
-        return refuses(8);
+        return refuses(rules::NO_ROOM);
     }
     writes::put_part(w, s, part);
     writes::free(w, p);
@@ -126,7 +126,7 @@ fn desk_commits(w: &mut [u8], n: u8, p: usize, plan: DeskPlan) -> Answer
         return refuses(answer);
     }
     if !reads::has_room(w, p, first.receivers, 0) {
-        return refuses(8);
+        return refuses(rules::NO_ROOM);
     }
     image::put_desk(w, 43520 + n as usize * 64, desk);
     writes::free(w, p);
@@ -247,7 +247,7 @@ fn deliver(w: &mut [u8], p: usize) -> Answer
 {
     let m = image::message_at(w, 43776 + p * 80);
     if !reads::alive_at(w, m.to) {
-        return refuses(4);
+        return refuses(rules::DEAD);
     }
     if m.to < 8 {
         return to_relay(w, p, m);
@@ -262,7 +262,7 @@ fn place_acts(w: &mut [u8], kind: u8, id: u8) -> Answer
 {
     let p = id as usize;
     if reads::is_free(w, p) {
-        return refuses(3);
+        return refuses(rules::EMPTY);
     }
     if kind == 6 {
         return deliver(w, p);
@@ -305,17 +305,17 @@ fn step_good(w: &mut [u8], k: Step) -> Answer
 {
     let kind = k.kind;
     if (kind != 5) & (k.value != 0) {
-        return refuses(2);
+        return refuses(rules::BAD_STEP);
     }
     if (kind == 6) | (kind == 7) {
         return place_acts(w, kind, k.id);
     }
     let who = actor(kind, k.id);
     if 12 <= who {
-        return refuses(2);
+        return refuses(rules::BAD_STEP);
     }
     if !reads::alive_at(w, who) {
-        return refuses(4);
+        return refuses(rules::DEAD);
     }
     if kind == 8 {
         return crash(w, who);
@@ -331,7 +331,7 @@ pub fn step(w: &mut [u8], k: Step) -> Answer
     ensures { λ r. ⌜ lentOf r (now (w .exit)) ≡ lent.lentStep (now (w .entry)) k ⌝ }
 {
     if !good::is_good(w) {
-        return refuses(1);
+        return refuses(rules::BAD_WORLD);
     }
     step_good(w, k)
 }
@@ -343,10 +343,10 @@ pub fn start(w: &mut [u8], mask: u8) -> Answer
     ensures { λ r. ⌜ lentOf r (now (w .exit)) ≡ lent.lentStart (now (w .entry)) mask ⌝ }
 {
     if w.len() != 65536 {
-        return refuses(1);
+        return refuses(rules::BAD_WORLD);
     }
     if mask == 0 {
-        return refuses(2);
+        return refuses(rules::BAD_STEP);
     }
     rows::clear(w, 0, 65536);
     begin::put_relays(w, mask);

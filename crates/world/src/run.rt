@@ -177,7 +177,7 @@ fn fitted(length: usize, room: usize) -> Rehearsed
 {
     if room < length {
         return Rehearsed {
-            answer: 8,
+            answer: rules::NO_ROOM,
             length: length,
         };
     }
@@ -195,7 +195,7 @@ pub fn rehearse(sheet: &[u8], world: &mut [u8], out: &mut [u8]) -> Rehearsed
 {
     if world.len() != 65536 {
         return Rehearsed {
-            answer: 1,
+            answer: rules::BAD_WORLD,
             length: 0,
         };
     }
