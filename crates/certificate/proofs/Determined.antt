@@ -6,7 +6,7 @@
 -- before and b what it holds afterwards. A function with several promises has a line for each, by its name.
 use mathlib.Core.Path.{_≡_, refl, sym, ap, _∙_}
 use mathlib.Core.List.{List, [], _∷_}
-use Prim.Native.Nat.{ℕ, _+_, _≤_}
+use Prim.Native.Nat.{ℕ, _+_, _≤_, min}
 use lib.Bits.{bitOr}
 use lib.Dec.{leb}
 use lib.ListN.{length, getD, set}
@@ -173,6 +173,9 @@ stamps-fresh = by-equation freshPair
 
 pub rows-has-room : (len at n : ℕ) → Determined (λ r. r ≡ leb (at + n) len)
 rows-has-room len at n = by-equation (leb (at + n) len)
+
+pub rows-smaller : (a b : ℕ) → Determined (λ r. r ≡ min a b)
+rows-smaller a b = by-equation (min a b)
 
 pub rows-byte-at : (s : List ℕ) (at : ℕ) → Determined (λ r. r ≡ getD s at 0)
 rows-byte-at s at = by-equation (getD s at 0)

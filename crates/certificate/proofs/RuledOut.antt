@@ -4,7 +4,7 @@
 use mathlib.Core.Path.{_≡_}
 use mathlib.Core.Bool.{true, not, _&&_, cond}
 use mathlib.Core.List.{List, [], _∷_, _++_}
-use Prim.Native.Nat.{ℕ, _+_, _-_, _*_, _/_, _%_, _≤_, min}
+use Prim.Native.Nat.{ℕ, _+_, _-_, _*_, _/_, _%_, _≤_, min, max}
 use lib.Bits.{bitAnd, bitOr}
 use lib.Count.{ones, onesIn}
 use lib.Dec.{eqb, leb, ltb}
@@ -297,6 +297,12 @@ rows-has-room-one-byte-spare p = differ truth (p 2 0 2) tt
 
 pub rows-has-room-by-a-sum-that-wraps : ¬ ((len at n : ℕ) → leb ((at + n) % 18446744073709551616) len ≡ leb (at + n) len)
 rows-has-room-by-a-sum-that-wraps p = differ truth (p 1 18446744073709551615 1) tt
+
+pub rows-smaller-the-greater : ¬ ((a b : ℕ) → max a b ≡ min a b)
+rows-smaller-the-greater p = differ itself (p 1 2) tt
+
+pub rows-smaller-the-first-always : ¬ ((a b : ℕ) → a ≡ min a b)
+rows-smaller-the-first-always p = differ itself (p 2 1) tt
 
 pub rows-byte-at-the-next : ¬ ((s : List ℕ) (at : ℕ) → getD s (at + 1) 0 ≡ getD s at 0)
 rows-byte-at-the-next p = differ itself (p (1 ∷ 2 ∷ []) 0) tt

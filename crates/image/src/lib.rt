@@ -1,8 +1,9 @@
 // The world's parts in the rows of a lent buffer: each read, and each written over its row. Document 01, "The world"; the layout is rules' Image. Every
-// function is total: past the end a buffer reads zero, and a row that does not fit wholly is not written.
+// function is total: past the end a buffer reads zero, and a row that does not fit wholly is not written. A row past the end is read as one that begins at the
+// end, so that what is added to its index stays in range.
 ghost use mathlib.Core.Path.{_≡_};
 ghost use mathlib.Core.List.{[], _++_};
-ghost use Prim.Native.Nat.{_+_, _≤_, min};
+ghost use Prim.Native.Nat.{_+_, _≤_};
 ghost use lib.ListN.{length};
 ghost use Rattle.rows.specs.Bytes.{placed, fieldsOf, sum};
 ghost use Rattle.views.specs.Row.{viewsOf};
@@ -22,20 +23,10 @@ use state::Notes;
 use state::Transfer;
 use views::Sequence;
 
-// Past the end everything reads zero, so a row there reads as one that begins at the end; what is added to an index then stays in range.
-fn inside(len: usize, at: usize) -> usize
-    ensures { λ r. ⌜ r ≡ min at len ⌝ }
-{
-    if len < at {
-        return len;
-    }
-    at
-}
-
 pub fn sequence_at(s: &[u8], at: usize) -> Sequence
     ensures { λ r. ⌜ viewsOf r ≡ sequenceAt (now (s .entry)) at ⌝ }
 {
-    let a = inside(s.len(), at);
+    let a = rows::smaller(at, s.len());
     let mut views = [0u16; 15];
     for i in 0..15usize {
         views[i] = rows::read_u16(s, a + 2 * i);
@@ -84,7 +75,7 @@ fn put_around(
 pub fn pair_at(s: &[u8], at: usize) -> Pair
     ensures { λ r. ⌜ r ≡ pairAt (now (s .entry)) at ⌝ }
 {
-    let a = inside(s.len(), at);
+    let a = rows::smaller(at, s.len());
     let count = rows::read_u16(s, a);
     let desk = rows::byte_at(s, a + 2);
     let value = rows::read_u32(s, a + 3);
@@ -105,7 +96,7 @@ pub fn put_pair(s: &mut [u8], at: usize, p: Pair)
 pub fn head_at(s: &[u8], at: usize) -> Head
     ensures { λ r. ⌜ r ≡ headAt (now (s .entry)) at ⌝ }
 {
-    let a = inside(s.len(), at);
+    let a = rows::smaller(at, s.len());
     let alive = rows::byte_at(s, a) == 1;
     let entered = rows::byte_at(s, a + 1) == 1;
     let active = rows::byte_at(s, a + 2) == 1;
@@ -146,7 +137,7 @@ pub fn put_head(s: &mut [u8], at: usize, h: Head)
 pub fn notes_at(s: &[u8], at: usize) -> Notes
     ensures { λ r. ⌜ notesOf r ≡ notesAt (now (s .entry)) at ⌝ }
 {
-    let a = inside(s.len(), at);
+    let a = rows::smaller(at, s.len());
     let mut of = [views::empty(); 8];
     for i in 0..8usize {
         of[i] = sequence_at(s, a + i * 31);
@@ -170,7 +161,7 @@ pub fn put_notes(s: &mut [u8], at: usize, n: Notes)
 pub fn generator_at(s: &[u8], at: usize) -> Generator
     ensures { λ r. ⌜ generatorOf r ≡ generatorAt (now (s .entry)) at ⌝ }
 {
-    let a = inside(s.len(), at);
+    let a = rows::smaller(at, s.len());
     let view = rows::read_u16(s, a);
     let own = sequence_at(s, a + 2);
     let converged = sequence_at(s, a + 33);
@@ -217,7 +208,7 @@ pub fn put_generator(s: &mut [u8], at: usize, g: Generator)
 pub fn transfer_at(s: &[u8], at: usize) -> Transfer
     ensures { λ r. ⌜ transferOf r ≡ transferAt (now (s .entry)) at ⌝ }
 {
-    let a = inside(s.len(), at);
+    let a = rows::smaller(at, s.len());
     let old = rows::read_u16(s, a);
     let new = rows::read_u16(s, a + 2);
     let sequence = sequence_at(s, a + 4);
@@ -285,7 +276,7 @@ fn phase_of(n: u8) -> Phase
 pub fn desk_at(s: &[u8], at: usize) -> Desk
     ensures { λ r. ⌜ r ≡ deskAt (now (s .entry)) at ⌝ }
 {
-    let a = inside(s.len(), at);
+    let a = rows::smaller(at, s.len());
     let alive = rows::byte_at(s, a) == 1;
     let phase = phase_of(rows::byte_at(s, a + 1));
     let view = rows::read_u16(s, a + 2);
@@ -334,7 +325,7 @@ pub fn put_desk(s: &mut [u8], at: usize, d: Desk)
 pub fn message_at(s: &[u8], at: usize) -> Message
     ensures { λ r. ⌜ messageRow r ≡ rowAt (now (s .entry)) at ⌝ }
 {
-    let a = inside(s.len(), at);
+    let a = rows::smaller(at, s.len());
     let kind = rows::byte_at(s, a);
     let from = rows::byte_at(s, a + 1);
     let to = rows::byte_at(s, a + 2);

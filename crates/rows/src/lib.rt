@@ -2,7 +2,7 @@
 // write that does not fit wholly writes nothing. Document 01, "The world" and "Sheets and the printed record".
 ghost use mathlib.Core.Path.{_≡_};
 ghost use mathlib.Core.List.{[], _∷_};
-ghost use Prim.Native.Nat.{_+_};
+ghost use Prim.Native.Nat.{_+_, min};
 ghost use lib.Dec.{leb};
 ghost use lib.ListN.{getD};
 ghost use Rattle.rows.specs.Bytes.{placed, bytesOf, fieldsOf, sum, be16, u16At, u32At, zeros};
@@ -16,6 +16,15 @@ pub fn has_room(len: usize, at: usize, n: usize) -> bool
         return false;
     }
     at <= len - n
+}
+
+pub fn smaller(a: usize, b: usize) -> usize
+    ensures { λ r. ⌜ r ≡ min a b ⌝ }
+{
+    if a < b {
+        return a;
+    }
+    b
 }
 
 pub fn byte_at(s: &[u8], at: usize) -> u8

@@ -4,10 +4,11 @@ use rows::has_room;
 use rows::is_zero;
 use rows::put_fields;
 use rows::read_u32;
+use rows::smaller;
 use rules::Step;
 ghost use mathlib.Core.Path.{_≡_};
 ghost use mathlib.Core.List.{[], _∷_, _++_};
-ghost use Prim.Native.Nat.{_+_, _*_, _≤_, min};
+ghost use Prim.Native.Nat.{_+_, _*_, _≤_};
 ghost use lib.ListN.{length, drop};
 ghost use Rattle.rows.specs.Bytes.{placed};
 ghost use Rattle.rules.specs.Sheets.{mark, marked, allZerosIn, stepBytes, stepsBytes};
@@ -131,19 +132,10 @@ pub fn after(b: &[u8], at: usize) -> usize
     at
 }
 
-fn least(a: usize, b: usize) -> usize
-    ensures { λ r. ⌜ r ≡ min a b ⌝ }
-{
-    if a < b {
-        return a;
-    }
-    b
-}
-
 fn count(kinds: &[u8], ids: &[u8], values: &[u32]) -> usize
     ensures { λ r. ⌜ r ≡ length (listed (now (kinds .entry)) (now (ids .entry)) (now (values .entry))) ⌝ }
 {
-    least(kinds.len(), least(ids.len(), values.len()))
+    smaller(kinds.len(), smaller(ids.len(), values.len()))
 }
 
 fn put_head(buf: &mut [u8], mask: u8)

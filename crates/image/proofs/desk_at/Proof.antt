@@ -10,7 +10,7 @@ unfolding deskAt
 returns c =
     let start = c .before .before .before .before .before .before .before .before .before in
     let a = start .before .before .args in
-    cc (desk-alike (alike-end (a .s .now) (a .at) _ (start .inside .ensures)))
+    cc (desk-alike (alike-end (a .s .now) (a .at) _ (start .smaller .ensures)))
 
 pub desk-at-spec : {M : Type 1} → statement M
 desk-at-spec =

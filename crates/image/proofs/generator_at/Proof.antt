@@ -20,7 +20,7 @@ returns c =
       c .before .notes-at .ensures,
       c .notes-at2 .ensures,
     )
-    (generator-alike (alike-end (a .s .now) (a .at) _ (start .inside .ensures)))
+    (generator-alike (alike-end (a .s .now) (a .at) _ (start .smaller .ensures)))
 
 pub generator-at-spec : {M : Type 1} → statement M
 generator-at-spec =

@@ -10,7 +10,7 @@ unfolding headAt
 returns c =
     let start = c .before .before .before .before .before .before .before in
     let a = start .before .before .args in
-    cc (head-alike (alike-end (a .s .now) (a .at) _ (start .inside .ensures)))
+    cc (head-alike (alike-end (a .s .now) (a .at) _ (start .smaller .ensures)))
 
 pub head-at-spec : {M : Type 1} → statement M
 head-at-spec =

@@ -11,7 +11,7 @@ unfolding messageRow addressedRow rowAt
 returns c =
     let start = c .before .before .before .before .before .before .before .before .before in
     let a = start .before .before .args in
-    cc (row-alike (alike-end (a .s .now) (a .at) _ (start .inside .ensures)))
+    cc (row-alike (alike-end (a .s .now) (a .at) _ (start .smaller .ensures)))
 
 pub message-at-spec : {M : Type 1} → statement M
 message-at-spec =

@@ -27,7 +27,7 @@ unfolding notesOf notesAt
 returns c =
     let start = c .before .before .before in
     let a = start .before .before .args in
-    fill-all (c .before .loop .inv) (c .loop-test .left) ∙ notes-alike (alike-end (a .s .now) (a .at) _ (start .inside .ensures))
+    fill-all (c .before .loop .inv) (c .loop-test .left) ∙ notes-alike (alike-end (a .s .now) (a .at) _ (start .smaller .ensures))
 
 pub notes-at-spec : {M : Type 1} → statement M
 notes-at-spec =

@@ -13,7 +13,7 @@ returns c =
     let start = c1 .before in
     let a = start .before .before .args in
     rw (c1 .read-u16 .ensures, c2 .byte-at .ensures, c .read-u32 .ensures)
-    (pair-alike (alike-end (a .s .now) (a .at) _ (start .inside .ensures)))
+    (pair-alike (alike-end (a .s .now) (a .at) _ (start .smaller .ensures)))
 
 pub pair-at-spec : {M : Type 1} → statement M
 pair-at-spec =

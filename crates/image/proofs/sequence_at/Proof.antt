@@ -27,7 +27,7 @@ returns c =
     let start = out .before .before in
     let a = start .before .before .args in
     let read = ap₂ take (c .byte-at .ensures) (fill-all (out .before .loop .inv) (out .loop-test .left)) in
-    read ∙ sequence-alike (alike-end (a .s .now) (a .at) _ (start .inside .ensures))
+    read ∙ sequence-alike (alike-end (a .s .now) (a .at) _ (start .smaller .ensures))
 
 pub sequence-at-spec : {M : Type 1} → statement M
 sequence-at-spec =

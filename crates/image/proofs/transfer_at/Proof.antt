@@ -11,7 +11,7 @@ unfolding transferOf transferAt
 returns c =
     let start = c .before .before .before .before .before .before in
     let a = start .before .before .args in
-    cc (transfer-alike (alike-end (a .s .now) (a .at) _ (start .inside .ensures)))
+    cc (transfer-alike (alike-end (a .s .now) (a .at) _ (start .smaller .ensures)))
 
 pub transfer-at-spec : {M : Type 1} → statement M
 transfer-at-spec =
