@@ -112,6 +112,7 @@ fn put_kept(w: &mut [u8], at: usize, kept: Kept)
     }
 }
 
+// Only where `has_seats` is true, so that the seat is one of the eight; `put_part` likewise.
 fn put_transfers(w: &mut [u8], s: u8, part: Part)
     requires { ⌜ (goodBytes (now w) ≡ true) × (s < 8) ⌝ }
     ensures { λ _. ⌜ (leb (length (widened (relayAt (worldAt (now (w .entry))) s) (partOf part) .transfers)) 8 ≡ true
@@ -129,9 +130,6 @@ fn put_transfers(w: &mut [u8], s: u8, part: Part)
     }
     let t = part.transfer;
     let i = super::reads::transfer_seat(w, at + 4800, t.old, t.new);
-    if 8 <= i {
-        return;
-    }
     image::put_transfer(w, at + 4800 + i * 80, t);
 }
 
@@ -151,9 +149,6 @@ pub(crate) fn put_part(w: &mut [u8], s: u8, part: Part)
     put_transfers(w, s, part);
     image::put_head(w, at, head);
     if !part.generates {
-        return;
-    }
-    if 8 <= i {
         return;
     }
     image::put_generator(w, at + 64 + i * 592, g);

@@ -1,6 +1,5 @@
 -- `world::writes::put_part` meets its contract. Assumes nothing.
 use mathlib.Core.Path.{ap, _∙_}
-use native.Mathlib.Omega.{arith}
 use borrow.Author.Needs.{needs}
 use borrow.Author.Tests.{not-true, not-false, ltb-true}
 use Rattle.rules.specs.State.{Relay, withRelay}
@@ -21,26 +20,19 @@ returns c g h =
 
 returns-2 : tie.Need-returns-2
 returns-2 c g h =
-    let t = c .before in
-    let seat = t .before .before .before .before .before .before .before .before .before .before in
-    let a = seat .before .before .before .before .before in
-    let e = seated-some (a .args .w .now) (a .pre .0) (a .args .s) (a .pre .1) (a .args .part) (not-false _ (t .if1 .left)) _ (seat .generator-seat .ensures) in
-    absurd (omega (arith, ltb-true (seat .generator-seat .result) 8 (e ∙ g), c .if2 .taken))
-
-returns-3 : tie.Need-returns-3
-returns-3 c g h =
     let put = c .before .before in
-    let low = put .before .before in
-    let t = low .before in
+    let t = put .before .before in
     let head = t .before .before .before .before in
     let moved = head .before .before .before .before in
     let seat = moved .before .before in
     let a = seat .before .before .before .before .before in
     let b = a .args .w .now in
+    let some = not-false _ (t .if1 .left) in
+    let low = seated-some b (a .pre .0) (a .args .s) (a .pre .1) (a .args .part) some _ (seat .generator-seat .ensures) in
     put .put-generator .ensures
     ∙ rw (head .put-head .ensures, moved .put-transfers .ensures h, head-written b (a .pre .0) (a .args .s) (a .pre .1) (a .args .part))
-    (some-written b (a .pre .0) (a .args .s) (a .pre .1) (a .args .part) (not-false _ (t .if1 .left)) _ (seat .generator-seat .ensures) (low .if2 .left))
+    (some-written b (a .pre .0) (a .args .s) (a .pre .1) (a .args .part) some _ (seat .generator-seat .ensures) (ltb-true _ 8 (low ∙ g)))
 
 pub put-part-spec : {M : Type 1} → statement M
-put-part-spec = tie.close (tie.spec (λ c. search needs) (λ c. search needs) (λ c κs. search needs) (λ c κs. c .before .before .before .before .before .before .pre) (λ c κs. tt) (λ c. search needs) returns (λ c. search needs) returns-2
-    (λ c. search needs) (λ c. search needs) (λ c. search needs) (λ c κs. tt) (λ c. search needs) returns-3)
+put-part-spec = tie.close (tie.spec (λ c. search needs) (λ c. search needs) (λ c κs. search needs) (λ c κs. c .before .before .before .before .before .before .pre) (λ c κs. tt) (λ c. search needs) returns
+    (λ c. search needs) (λ c. search needs) (λ c. search needs) (λ c κs. tt) (λ c. search needs) returns-2)

@@ -34,23 +34,18 @@ returns-2 c h =
 
 returns-3 : tie.Need-returns-3
 returns-3 c h =
-    let u = c .before .before .before .before in
-    let t = u .before .before in
-    let a = t .before .before .before .before in
-    let seat = moves-seated (a .args .w .now) (a .pre .0) (a .args .s) (a .pre .1) (a .args .part) (t .if1 .left ∙ t .before .read-u16 .ensures) (not-false _ (u .if2 .left)) _ (c .before .transfer-seat .ensures) in
-    absurd (omega (arith, ltb-true (c .before .transfer-seat .result) 8 (seat ∙ h), c .if3 .taken))
-
-returns-4 : tie.Need-returns-4
-returns-4 c h =
     let put = c .before .before in
-    let low = put .before .before in
-    let u = low .before .before .before .before in
+    let seat = put .before .before in
+    let u = seat .before .before .before in
     let t = u .before .before in
     let a = t .before .before .before .before in
+    let same = t .if1 .left ∙ t .before .read-u16 .ensures in
+    let some = not-false _ (u .if2 .left) in
+    let low = moves-seated (a .args .w .now) (a .pre .0) (a .args .s) (a .pre .1) (a .args .part) same some _ (seat .transfer-seat .ensures) in
     put .put-transfer .ensures
-    ∙ moves-written (a .args .w .now) (a .pre .0) (a .args .s) (a .pre .1) (a .args .part) (t .if1 .left ∙ t .before .read-u16 .ensures) (not-false _ (u .if2 .left)) _ (low .before .transfer-seat .ensures) (low .if3 .left)
+    ∙ moves-written (a .args .w .now) (a .pre .0) (a .args .s) (a .pre .1) (a .args .part) same some _ (seat .transfer-seat .ensures) (ltb-true _ 8 (low ∙ h))
 
 pub put-transfers-spec : {M : Type 1} → statement M
 put-transfers-spec = tie.close (tie.spec (λ c. search needs) (λ c. search needs) (λ c κs. tt) (λ c. search needs) (λ c κs. search needs) (λ c. search needs) fits
-    (λ c. ap length (c .before .before .put-kept .ensures) ∙ placed-length _ _ _) returns (λ c. search needs) returns-2 (λ c. search needs) (λ c κs. search needs) (λ c. search needs) returns-3
-    (λ c. search needs) (λ c. search needs) (λ c. search needs) (λ c κs. tt) (λ c. ap length (c .before .before .put-transfer .ensures) ∙ placed-length _ _ _) returns-4)
+    (λ c. ap length (c .before .before .put-kept .ensures) ∙ placed-length _ _ _) returns (λ c. search needs) returns-2 (λ c. search needs) (λ c κs. search needs)
+    (λ c. search needs) (λ c. search needs) (λ c. search needs) (λ c κs. tt) (λ c. ap length (c .before .before .put-transfer .ensures) ∙ placed-length _ _ _) returns-3)
