@@ -16,27 +16,21 @@ fn start_head(mask: u8, s: u8) -> Head
     ensures { λ r. ⌜ relayOf r [] [] ≡ startRelay mask s ⌝ }
 {
     let known = mask as u16;
-    let holds = stamps::fresh();
-    if (mask >> s) % 2 == 1 {
-        return Head {
-            alive: true,
-            entered: true,
-            active: true,
-            view: known,
-            known: known,
-            pending: 0,
-            holds: holds,
-        };
-    }
-    Head {
+    let joined = (mask >> s) % 2 == 1;
+    let mut head = Head {
         alive: true,
-        entered: false,
-        active: false,
-        view: 0,
+        entered: joined,
+        active: joined,
+        view: known,
         known: known,
         pending: 0,
-        holds: holds,
+        holds: stamps::fresh(),
+    };
+    if joined {
+        return head;
     }
+    head.view = 0;
+    head
 }
 
 pub(crate) fn put_relays(w: &mut [u8], mask: u8)

@@ -1,6 +1,5 @@
 -- `world::begin::start_head` meets its contract. Assumes nothing.
 use native.Mathlib.Omega.{arith}
-use borrow.Author.Tests.{eq-eqb, ne-eqb}
 use Rattle.rules.specs.State.{startRelay}
 use Rattle.state.specs.Meaning.{relayOf}
 use Rattle.world.proofs.begin.start_head.Statement.{statement}
@@ -8,11 +7,11 @@ use Rattle.world.proofs.begin.start_head.Tie as tie
 
 returns : tie.Need-returns
 unfolding relayOf startRelay
-returns c = rw (c .before .fresh .ensures, eq-eqb _ _ (c .if1 .taken))
+returns c = rw (c .before .fresh .ensures, c .if1 .taken)
 
 returns-2 : tie.Need-returns-2
 unfolding relayOf startRelay
-returns-2 c = rw (c .before .fresh .ensures, ne-eqb _ _ (c .if1 .left))
+returns-2 c = rw (c .before .fresh .ensures, c .if1 .left)
 
 pub start-head-spec : {M : Type 1} → statement M
-start-head-spec = tie.close (tie.spec (λ c κs. tt) (λ c. omega (arith, c .before .pre)) returns returns-2)
+start-head-spec = tie.close (tie.spec (λ c. omega (arith, c .pre)) (λ c κs. tt) returns returns-2)
