@@ -4,12 +4,12 @@ ghost use mathlib.Core.Path.{_≡_};
 ghost use Rattle.rules.specs.Image.{goodBytes};
 
 mod desks;
-mod generators; // of a relay
-mod parts; // of rows
-mod places; // of messages
+mod generators;
+mod parts;
+mod places;
 mod relays;
-mod tables; // of a relay
-mod transfers; // of a relay
+mod tables;
+mod transfers;
 
 pub fn is_good(w: &[u8]) -> bool
     ensures { λ r. ⌜ r ≡ goodBytes (now (w .entry)) ⌝ }

@@ -126,7 +126,6 @@ pub fn ack(tries: u16) -> Body
     b
 }
 
-// A body of that kind, from all its fields.
 fn says(
     kind: u8,
     first: u16,

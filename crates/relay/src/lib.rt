@@ -124,7 +124,7 @@ fn request_heard(p: Part, from: u8, u: u16, c: u16) -> Plan
 
 // ---- proposals and convergences
 
-// A proposal comes, or a convergence.
+// "Proposal(v, q): note it for the sender."; "Converged(v, q): note it."
 fn sequence_heard(p: Part, from: u8, v: u16, q: Sequence, converged: bool) -> Plan
     ensures { λ r. ⌜ planOf r ≡ planned noRelay (ifFitting (showsView v (partOf p)) (rules.atGenerator (partOf p) (
         let g = generatorFor v (partOf p .generators) in if converged then convergedHeard g from (viewsOf q) else heardInRow g from (viewsOf q)))) ⌝ }

@@ -126,7 +126,7 @@ pub fn empty() -> Sequence
     }
 }
 
-// How many views there are.
+// "it has at most 15": of a length above that, all fifteen count.
 pub fn count(q: Sequence) -> usize
     ensures { λ r. ⌜ (r ≡ length (viewsOf q)) × (r ≤ 15) ⌝ }
 {
@@ -153,7 +153,6 @@ pub fn kept(q: Sequence) -> Sequence
     rest(empty(), q, 0)
 }
 
-// v is one of the views of q.
 pub fn has(q: Sequence, v: u16) -> bool
     ensures { λ r. ⌜ r ≡ hasOf (viewsOf q) v ⌝ }
 {
@@ -213,7 +212,6 @@ pub fn conflict(q: Sequence, own: Sequence) -> bool
     false
 }
 
-// The same views.
 pub fn same(a: Sequence, b: Sequence) -> bool
     ensures { λ r. ⌜ r ≡ sameOf (viewsOf a) (viewsOf b) ⌝ }
 {
@@ -276,7 +274,7 @@ pub fn plus(v: u16, q: Sequence) -> Sequence
     push(a, v)
 }
 
-// The views of both.
+// "otherwise own becomes the union of both"
 pub fn union(a: Sequence, b: Sequence) -> Sequence
     ensures { λ r. ⌜ r ≡ rowOf (unionOf (viewsOf a) (viewsOf b)) ⌝ }
 {

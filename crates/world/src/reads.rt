@@ -46,7 +46,7 @@ pub(crate) fn first_free(w: &[u8]) -> usize
     256
 }
 
-// How many receivers there are in a set.
+// Twelve bits: "0..7 relays, 8..11 desks".
 pub(crate) fn receivers(m: u16) -> usize
     ensures { λ r. ⌜ (r ≡ length (receiversBelow m 12)) × (r ≤ 12) ⌝ }
 {

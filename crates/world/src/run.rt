@@ -76,7 +76,7 @@ struct Tally {
     dropped: u32,
 }
 
-// One step, and its line.
+// "a line a step: number from 1, answer, event, who, stamp count, stamp desk"
 fn turn(w: &mut [u8], out: &mut [u8], at: usize, number: u32, k: Step) -> Tally
     requires { ⌜ goodBytes (now w) ≡ true ⌝ }
     ensures { λ r. ⌜ Stepped (worldAt (now (w .entry))) k number at (now (out .entry)) (now (w .exit)) (now (out .exit)) r ⌝ }
