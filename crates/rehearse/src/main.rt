@@ -7,6 +7,7 @@ fn main() {
     let mut sheet = [0u8; 64008];
     let n = io::read_full(STDIN_FILENO, &mut sheet);
     let mut buffer = [0u8; 65536];
+    // No record is longer than 624,067 bytes (world/proofs/Lengths).
     let mut out = [0u8; 640000];
     let done = world::run::rehearse(&sheet[..n], &mut buffer, &mut out);
     let length = done.length;
