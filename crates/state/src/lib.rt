@@ -36,7 +36,7 @@ pub struct Head {
     pub holds: Pair,
 }
 
-// What a message says: a field for everything that some kind says, zero where its own kind does not.
+// What a message says: a field for everything that some kind says; a field that its own kind does not say means nothing; `messages::plain` makes it zero.
 pub struct Body {
     pub kind: u8,
     pub first: u16,
