@@ -176,7 +176,7 @@ if-alive w g who o h = cases (Keeps w) (aliveIn w who) (λ e. h) (λ e. refuses 
 seat-clash : (v to : ℕ) → member v to ≡ true → ltb to 8 ≡ false → isDesk to ≡ true
 seat-clash v to m e = absurd (contrary (lt-ltb to 8 (member-lt v to m)) e)
 
-to-desk : (m : Message) (b : Body) → goodBody m b ≡ true → ltb (m .to) 8 ≡ false → isDesk (m .to) ≡ true
+pub to-desk : (m : Message) (b : Body) → goodBody m b ≡ true → ltb (m .to) 8 ≡ false → isDesk (m .to) ≡ true
 unfolding goodBody
 to-desk m (request u c) g e = seat-clash c (m .to) (hold-facts _ g .1 .1 .1 .0) e
 to-desk m (view v) g e = absurd (contrary (hold-facts _ g .1 .0) e)

@@ -8,20 +8,18 @@ use native.Mathlib.Omega.{arith}
 use lib.Dec.{eqb, leb, ltb}
 use borrow.Author.Tests.{ne-eqb, lt-ltb, le-ltb, lt-leb, eqb-true, ltb-true, not-true, not-false}
 use Rattle.views.proofs.Truth.{decided, contrary, cases, either-true, neither-true}
-use Rattle.views.proofs.Sets.{member-lt}
-use Rattle.rules.specs.Sets.{if_then_else_, member}
-use Rattle.rules.specs.Messages.{Body, request, view, proposal, converged, install, state, get, put, viewReply, pairReply, ack, Message, Answer, dead, empty, bad-step, bad-world}
+use Rattle.rules.specs.Sets.{if_then_else_}
+use Rattle.rules.specs.Messages.{Body, Message, Answer, dead, empty, bad-step, bad-world}
 use Rattle.rules.specs.State.{Relay, Place, free, waiting, World, relayAt, deskAt, placeAt}
 use Rattle.rules.specs.declared.Desk as rules-desk
 use Rattle.rules.specs.Steps.{drop, Act, noReport, deliver, bad, told, Outcome, refusal, relayDoes, deskDoes, aliveIn, ifAlive, freed, delivers, delivery, dropping, crashing, acts, stepped}
 use Rattle.rules.specs.declared.Step.{Step}
 use Rattle.rules.specs.Relays.{relayHears}
 use Rattle.rules.specs.Desks.{deskHears}
-use Rattle.rules.specs.WellFormed.{isDesk, between, goodBody, goodPlace}
+use Rattle.rules.specs.WellFormed.{goodBody, goodPlace}
 use Rattle.rules.specs.Image.{bodyIn, placeIn, rowAt, image, worldAt, goodBytes}
 use Rattle.rules.specs.Lent.{kept, left, lentStep}
-use Rattle.rules.proofs.Hold.{hold-facts}
-use Rattle.rules.proofs.Sends.{to-member}
+use Rattle.rules.proofs.Kept.{to-desk}
 use Rattle.rules.proofs.Table.{isFree}
 use Rattle.rules.proofs.ImageWorld.{good-image}
 use Rattle.state.specs.declared.Body as code-body
@@ -168,33 +166,10 @@ module _ (b : List ℕ) (good : goodBytes b ≡ true) (p : ℕ) (hp : p < 256) w
   to-desk-left m h = rw (le-ltb (m .to) 8 h, lt-ltb p 256 hp)
 
 -- a good message's receiver is one of the twelve
-desk-below : (n : ℕ) → isDesk n ≡ true → n < 12
-desk-below n e = ltb-true n 12 (and-eq-true-iff (leb 8 n) (ltb n 12) .0 e .1)
-
-member-below : (v n : ℕ) → member v n ≡ true → n < 12
-member-below v n e = let h = member-lt v n e in omega arith
-
-replied-below : (m : Message) → ltb (m .from) 8 && isDesk (m .to) ≡ true → m .to < 12
-replied-below m e = desk-below (m .to) (and-eq-true-iff (ltb (m .from) 8) (isDesk (m .to)) .0 e .1)
-
-asked-below : (c : ℕ) (m : Message) → isDesk (m .from) && member c (m .to) ≡ true → m .to < 12
-asked-below c m e = member-below c (m .to) (and-eq-true-iff (isDesk (m .from)) (member c (m .to)) .0 e .1)
-
 pub to-below : (m : Message) (x : Body) → goodBody m x ≡ true → m .to < 12
-unfolding goodBody
-to-below m (request u c) g = member-below c (m .to) (hold-facts _ g .1 .1 .1 .0)
-to-below m (view v) g = let h = ltb-true (m .to) 8 (hold-facts _ g .1 .0) in omega arith
-to-below m (proposal v q) g = member-below v (m .to) (to-member v v m (hold-facts _ g .1 .0))
-to-below m (converged v q) g = member-below v (m .to) (to-member v v m (hold-facts _ g .1 .0))
-to-below m (install o n q) g =
-    ⊎-elim (λ e. member-below o (m .to) (to-member o o m e)) (λ e. member-below n (m .to) (to-member o n m e))
-    (either-true (between o o m) (between o n m) (hold-facts _ g .1 .1 .0))
-to-below m (state o n p u) g = member-below n (m .to) (to-member o n m (hold-facts _ g .1 .0))
-to-below m (get try c) g = asked-below c m (hold-facts _ g .1 .1 .0)
-to-below m (put try c p) g = asked-below c m (hold-facts _ g .1 .1 .0)
-to-below m (viewReply try v) g = replied-below m (hold-facts _ g .1 .1 .0)
-to-below m (pairReply try p) g = replied-below m (hold-facts _ g .1 .1 .0)
-to-below m (ack try) g = replied-below m (hold-facts _ g .1 .0)
+to-below m x g =
+    ⊎-elim (λ e. omega (arith, ltb-true (m .to) 8 e)) (λ e. ltb-true (m .to) 12 (and-eq-true-iff (leb 8 (m .to)) (ltb (m .to) 12) .0 (to-desk m x g e) .1))
+    (decided (ltb (m .to) 8))
 
 -- ---- what a message is about, by its kind
 
