@@ -13,11 +13,12 @@ use Rattle.rules.specs.Generators.{fresh}
 use Rattle.rules.specs.Relays.{freshTransfer, isFor}
 use Rattle.rules.specs.WellFormed.{goodGenerators, goodTransfers, goodRelay}
 use Rattle.rules.proofs.Hold.{hold-facts}
+use Rattle.rules.proofs.Lists.{those-fewer}
 use Rattle.rules.proofs.Relays.{Rel, rel-facts}
 use Rattle.rows.proofs.Change.{Changed}
 use Rattle.locality.specs.Narrow.{Move, move, narrow, widened}
 use Rattle.locality.proofs.Table.{byView, byMove}
-use Rattle.locality.proofs.Seat.{seat, those-fewer, part-present, part-absent, put-changed, put-fits}
+use Rattle.locality.proofs.Seat.{seat, part-present, part-absent, put-changed, put-fits}
 
 -- the seats of a view and of a move
 abbrev pub seatOfView : ℕ → List Generator → ℕ

@@ -45,11 +45,6 @@ module _ {A : Type 0} (f : A → Bool) where
   seat-is (x ∷ xs) (suc i) d h below here =
       seat-later x xs (below 0 (omega arith)) ∙ ap suc (seat-is xs i d (le-of-suc-le-suc h) (λ k p. below (suc k) (suc-le-suc p)) (λ p. here (suc-le-suc p)))
 
-  pub those-fewer : (xs : List A) → length (those f xs) ≤ length xs
-  those-fewer [] = unfold those in (omega arith)
-  those-fewer (x ∷ xs) =
-      ⊎-elim (λ e. rw (those-with f x xs e) (suc-le-suc (those-fewer xs))) (λ e. rw (those-without f x xs e) (omega (arith, those-fewer xs))) (decided (f x))
-
 -- ---- what the part of a table shows, and where what is put back stands
 
 module _ {A K : Type 0} (T : Table A K) (k : K) where

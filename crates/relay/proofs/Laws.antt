@@ -2,7 +2,7 @@
 use mathlib.Core.Path.{_≡_, refl, sym, ap, _∙_}
 use mathlib.Core.Bool.{Bool, true, false, not, _&&_}
 use mathlib.Core.List.{List, [], _∷_}
-use Prim.Native.Nat.{ℕ, _*_, _%_, _^_, _≤_, _<_}
+use Prim.Native.Nat.{ℕ, _*_, _%_, _^_, _<_}
 use native.Mathlib.Nat.{one-mul}
 use native.Mathlib.Omega.{arith}
 use lib.Dec.{eqb}
@@ -10,7 +10,7 @@ use lib.ListN.{length, set}
 use lib.Pow.{shl-exact, pow-add}
 use lib.Seq.{take-all}
 use Rattle.views.specs.declared.Sequence.{Sequence}
-use Rattle.views.specs.Choice.{if_then_else_, those}
+use Rattle.views.specs.Choice.{if_then_else_}
 use Rattle.views.specs.Row.{viewsOf, rowOf}
 use Rattle.views.proofs.Truth.{cases, contrary}
 use Rattle.views.proofs.Rows.{views-length, held}
@@ -20,6 +20,7 @@ use Rattle.rules.specs.Messages.{Sending, viewReply, pairReply, ack, Event, Ans
 use Rattle.rules.specs.State.{Generator, Transfer, Relay, withKnown, withActive}
 use Rattle.rules.specs.Generators.{Turn, putGenerator, withOwn, proposes, agree, hears, settles, notesConverged, raises, convergedHeard}
 use Rattle.rules.specs.Relays.{isFor, atGenerator, learns, freshTransfer, transferFor, putTransfer, keeps, gathers, passes, onward, enters, tested, takesInstall, sentFirst, relayHears}
+use Rattle.rules.proofs.Lists.{those-fewer}
 use Rattle.rules.proofs.Transfers.{found-old, found-new}
 use Rattle.state.specs.declared.Transfer as code
 use Rattle.state.specs.Meaning.{asList, transferOf}
@@ -29,18 +30,9 @@ use Rattle.relay.specs.Fitting as relay
 
 -- ---- sequences
 
-those-length : (f : ℕ → Bool) (l : List ℕ) → length (those f l) ≤ length l
-unfolding those
-those-length f [] = omega arith
-those-length f (x ∷ l) = go (f x) (those-length f l)
-  where
-    go : (b : Bool) → length (those f l) ≤ length l → length (if b then x ∷ those f l else those f l) ≤ length (x ∷ l)
-    go true h = omega arith
-    go false h = omega arith
-
 -- a row has room for what stands beyond w in a row
 pub held-beyond : (r : Sequence) (w : ℕ) (q : Sequence) → length (q .views) ≡ 15 → r ≡ rowOf (beyond w (viewsOf q)) → viewsOf r ≡ beyond w (viewsOf q)
-held-beyond r w q full e = held r _ e ∙ take-all 15 _ (omega (arith, those-length (inside w) (viewsOf q), views-length q full))
+held-beyond r w q full e = held r _ e ∙ take-all 15 _ (omega (arith, those-fewer (inside w) (viewsOf q), views-length q full))
 
 -- ---- the known view
 

@@ -1,12 +1,14 @@
--- Lists and tests as the proofs of the code meet them: a mapped list of which one element is set, what passes of two lists, a test as a byte.
+-- Lists and tests as the proofs of the code meet them: a mapped list of which one element is set, what passes of a list, a test as a byte.
 -- Assumes nothing.
 use mathlib.Core.Path.{_≡_, refl, ap}
 use mathlib.Core.Bool.{Bool, true, false}
 use mathlib.Core.List.{List, [], _∷_, _++_, map}
 use Prim.Native.Nat.{ℕ, zero, suc, _≤_}
+use native.Mathlib.Omega.{arith}
 use lib.Dec.{lit≤}
-use lib.ListN.{set}
+use lib.ListN.{length, set}
 use mir.Val.{boolByte}
+use Rattle.views.proofs.Truth.{cases}
 use Rattle.rules.specs.Sets.{if_then_else_, those}
 
 pub map-set : {A B : Type 0} (f : A → B) (l : List A) (i : ℕ) (x : A) → map f (set l i x) ≡ set (map f l) i (f x)
@@ -22,6 +24,13 @@ those-append f (x ∷ a) b = rw (those-append f a b) (go (f x))
     go : (t : Bool) → (if t then x ∷ (those f a ++ those f b) else those f a ++ those f b) ≡ (if t then x ∷ those f a else those f a) ++ those f b
     go true = refl
     go false = refl
+
+pub those-fewer : {A : Type 0} (f : A → Bool) (l : List A) → length (those f l) ≤ length l
+unfolding those
+those-fewer f [] = omega arith
+those-fewer {A} f (x ∷ l) =
+    let h : length (those f l) ≤ length l = those-fewer f l in
+    cases (λ (k : List A). length k ≤ length (x ∷ l)) (f x) (λ _. omega arith) (λ _. omega arith)
 
 pub byte-is : (b : Bool) → boolByte b ≡ (if b then 1 else 0)
 byte-is true = refl
