@@ -16,11 +16,11 @@ use Rattle.rules.specs.State.{Transfer, Relay, withKnown, withPending, withActi
 use Rattle.rules.specs.Generators.{generatorFor, Turn, proposes, proposalHeard, convergedHeard}
 use Rattle.rules.specs.Relays.{atGenerator, joinAsked, leaveAsked, timerRang, requestHeard, learns, isFor, putTransfer, passes, moved, onward, enters, tested, early, stopped, takesInstall, sentFirst, installHeard, stateHeard, serves, getHeard, putHeard, relayHears}
 use Rattle.rules.proofs.Hold.{all-none}
-use Rattle.rules.proofs.Generators.{view-of}
+use Rattle.rules.proofs.Generators.{view-of, Leaves, proposes-leaves, proposal-leaves, converged-leaves}
 use Rattle.relay.proofs.Laws.{sent-none}
 use Rattle.locality.specs.Narrow.{generatorOfBody, Move, move, moveOfBody, narrow}
 use Rattle.locality.specs.Asked.{relayAsked}
-use Rattle.locality.proofs.Turn.{Leaves, proposes-leaves, proposal-leaves, converged-leaves, keeps-move, gathers-move}
+use Rattle.locality.proofs.Turn.{keeps-move, gathers-move}
 use Rattle.locality.proofs.Table.{byView, byMove, freed-move, put-keyed, those-none}
 use Rattle.locality.proofs.Fits.{shows-view, shows-move}
 

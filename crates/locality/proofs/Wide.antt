@@ -14,10 +14,10 @@ use Rattle.rules.specs.Messages.{Body, request, view, proposal, converged, inst
 use Rattle.rules.specs.State.{Generator, Transfer, Relay, withKnown, withPending, withActive, withHolds, withGenerators, withTransfers}
 use Rattle.rules.specs.Generators.{generatorFor, putGenerator, Turn, proposes, proposalHeard, convergedHeard}
 use Rattle.rules.specs.Relays.{atGenerator, joinAsked, leaveAsked, timerRang, requestHeard, learns, isFor, putTransfer, passes, moved, onward, enters, tested, early, handed, takesInstall, sentFirst, installHeard, stateHeard, serves, getHeard, putHeard, relayHears}
-use Rattle.rules.proofs.Generators.{view-of}
+use Rattle.rules.proofs.Generators.{view-of, proposes-leaves, proposal-leaves, converged-leaves}
 use Rattle.locality.specs.Narrow.{generatorOfBody, Move, move, moveOfBody, withTables, narrow, putBack, widened, widens}
 use Rattle.locality.specs.Asked.{relayAsked}
-use Rattle.locality.proofs.Turn.{proposes-leaves, proposal-leaves, converged-leaves, keeps-move, gathers-move}
+use Rattle.locality.proofs.Turn.{keeps-move, gathers-move}
 use Rattle.locality.proofs.Table.{byView, byMove, freed-move, find-part, put-back, part-back, put-dropped}
 
 -- ---- by the two values of a test on both sides

@@ -1,12 +1,12 @@
 -- Laws of what a part shows, and of the rules at it. Assumes nothing.
 use mathlib.Core.Path.{_≡_, refl, sym, ap, _∙_}
-use mathlib.Core.Bool.{Bool, true, false, not, _&&_}
+use mathlib.Core.Bool.{Bool, true, false, _&&_}
 use mathlib.Core.List.{List, [], _∷_}
 use Prim.Native.Nat.{ℕ, _*_, _%_, _^_, _<_}
 use native.Mathlib.Nat.{one-mul}
 use native.Mathlib.Omega.{arith}
 use lib.Dec.{eqb}
-use lib.ListN.{length, set}
+use lib.ListN.{length}
 use lib.Pow.{shl-exact, pow-add}
 use lib.Seq.{take-all}
 use Rattle.views.specs.declared.Sequence.{Sequence}
@@ -14,12 +14,13 @@ use Rattle.views.specs.Choice.{if_then_else_}
 use Rattle.views.specs.Row.{viewsOf, rowOf}
 use Rattle.views.proofs.Truth.{cases, contrary}
 use Rattle.views.proofs.Rows.{views-length, held}
-use Rattle.rules.specs.Sets.{joins, leaves, member, inside, none, same, beyond, all}
+use Rattle.rules.specs.Sets.{joins, leaves, member, inside, none, beyond, all}
 use Rattle.rules.specs.Stamps.{Pair}
 use Rattle.rules.specs.Messages.{Sending, viewReply, pairReply, ack, Event, Answer, refused, does, quietly}
 use Rattle.rules.specs.State.{Generator, Transfer, Relay, withKnown, withActive}
-use Rattle.rules.specs.Generators.{Turn, putGenerator, withOwn, proposes, agree, hears, settles, notesConverged, raises, convergedHeard}
+use Rattle.rules.specs.Generators.{putGenerator, withOwn, hears}
 use Rattle.rules.specs.Relays.{isFor, atGenerator, learns, freshTransfer, transferFor, putTransfer, keeps, gathers, passes, onward, enters, tested, takesInstall, sentFirst, relayHears}
+use Rattle.rules.proofs.Generators.{settles-leaves}
 use Rattle.rules.proofs.Lists.{those-fewer}
 use Rattle.rules.proofs.Transfers.{found-old, found-new}
 use Rattle.state.specs.declared.Transfer as code
@@ -76,25 +77,9 @@ high-shl s h = shl-exact {a = 256} 9 s 16 (omega arith) (omega arith) ∙ sym (p
 
 -- ---- the rules at a generator and at a transfer leave its views
 
--- a turn of the generator for v
-pub record For (v : ℕ) (t : Turn) : Type 0 where
-  pub view : t .next .view ≡ v
-
-pub proposes-view : (g : Generator) (q : List ℕ) → For (g .view) (proposes g q)
-unfolding proposes withOwn
-proposes-view g q = cases (For (g .view)) (none (g .own)) (λ e. record { view = refl }) (λ e. record { view = refl })
-
-settles-view : (g : Generator) → For (g .view) (settles g)
-unfolding settles
-settles-view g = cases (For (g .view)) (not (same (g .own) (g .converged)) && agree (g .view) (g .proposals) (g .own)) (λ e. record { view = refl }) (λ e. record { view = refl })
-
-pub heard-view : (g : Generator) (from : ℕ) (q : List ℕ) → For (g .view) (heardInRow g from q)
+pub heard-view : (g : Generator) (from : ℕ) (q : List ℕ) → heardInRow g from q .next .view ≡ g .view
 unfolding heardInRow hearsInRow mergedInRow hears withOwn
-heard-view g from q = record { view = settles-view (mergedInRow g from q) .view }
-
-pub converged-view : (g : Generator) (from : ℕ) (q : List ℕ) → For (g .view) (convergedHeard g from q)
-unfolding convergedHeard notesConverged raises
-converged-view g from q = cases (For (g .view)) (agree (g .view) (set (g .convergences) from q) q && not (same q (g .raised))) (λ e. record { view = refl }) (λ e. record { view = refl })
+heard-view g from q = settles-leaves (mergedInRow g from q) .for
 
 -- what is kept in a transfer, or gathered in it, leaves its pair
 module _ (r t : code.Transfer) (o w : ℕ) (ts : List Transfer) (found : transferOf t ≡ transferFor o w ts) where

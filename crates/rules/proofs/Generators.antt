@@ -1,12 +1,12 @@
--- The rules at a generator keep it good, and send well. Assumes nothing.
+-- The rules at a generator keep it good, leave its view, and send well and little. Assumes nothing.
 use mathlib.Core.Path.{_≡_, refl, sym, ap, _∙_}
 use mathlib.Core.Logic.{⊎-elim}
 use mathlib.Core.Bool.{true, false, not, and-eq-true-iff}
 use mathlib.Core.List.{List, [], _∷_}
-use Prim.Native.Nat.{ℕ, _+_, _<_}
+use Prim.Native.Nat.{ℕ, _+_, _≤_, _<_}
 use native.Mathlib.Omega.{arith}
-use lib.Dec.{eqb, ltb}
-use lib.ListN.{length, set, length-set}
+use lib.Dec.{eqb, ltb, lit≤}
+use lib.ListN.{length, set, length-set, length-append}
 use borrow.Author.Tests.{ltb-true, eqb-true, not-true, lt-ltb, eq-eqb, ne-eqb}
 use Rattle.views.proofs.Digits.{bit-or}
 use Rattle.views.proofs.Among.{has-first, lacks-self}
@@ -15,7 +15,7 @@ use Rattle.views.proofs.Nested.{above-fact, above-test, above-first, above-smal
 use Rattle.views.proofs.Sets.{inside-test, member-bit}
 use Rattle.views.proofs.Truth.{contrary, either-true, true-left, true-right, cases}
 use Rattle.rules.specs.Sets.{_&&_, bit, members, member, lacks, conflict, least, most, some, same, plus, unite, heard, above, joined, none, all, allHold}
-use Rattle.rules.specs.Messages.{proposal, converged, install, toMembers, toBoth}
+use Rattle.rules.specs.Messages.{Sending, proposal, converged, install, toMembers, toBoth}
 use Rattle.rules.specs.State.{Generator}
 use Rattle.rules.specs.Generators.{fresh, generatorFor, Turn, withOwn, proposes, agree, hears, settles, proposalHeard, notesConverged, raises, convergedHeard}
 use Rattle.rules.specs.WellFormed.{isView, allFrom, goodNote, goodNotes, goodGenerator, goodMove, goodPlan, goodBody}
@@ -229,3 +229,38 @@ converged-good s g good from q f a n =
       for = refl;
       sendings = sends-none s;
     })
+
+-- ---- any generator, good or not: a rule leaves its view, and sends at most two things
+
+-- t is for v, and sends at most n
+pub record Leaves (v n : ℕ) (t : Turn) : Type 0 where
+  pub for : t .next .view ≡ v
+  pub few : length (t .sendings) ≤ n
+
+module _ (g : Generator) where
+  pub proposes-leaves : (q : List ℕ) → Leaves (g .view) 1 (proposes g q)
+  unfolding proposes withOwn
+  proposes-leaves q = cases (Leaves (g .view) 1) (none (g .own)) (λ _. record { for = refl; few = lit≤ tt }) (λ _. record { for = refl; few = lit≤ tt })
+
+  hears-leaves : (from : ℕ) (q : List ℕ) → Leaves (g .view) 1 (hears g from q)
+  unfolding hears
+  hears-leaves from q = record { for = refl; few = cases (λ (ss : List Sending). length ss ≤ 1) (lacks q (g .own)) (λ _. lit≤ tt) (λ _. lit≤ tt) }
+
+  pub settles-leaves : Leaves (g .view) 1 (settles g)
+  unfolding settles
+  settles-leaves =
+      cases (Leaves (g .view) 1) (not (same (g .own) (g .converged)) && agree (g .view) (g .proposals) (g .own))
+      (λ _. record { for = refl; few = lit≤ tt }) (λ _. record { for = refl; few = lit≤ tt })
+
+  pub converged-leaves : (from : ℕ) (q : List ℕ) → Leaves (g .view) 1 (convergedHeard g from q)
+  unfolding convergedHeard notesConverged raises
+  converged-leaves from q =
+      cases (Leaves (g .view) 1) (agree (g .view) (set (g .convergences) from q) q && not (same q (g .raised)))
+      (λ _. record { for = refl; few = lit≤ tt }) (λ _. record { for = refl; few = lit≤ tt })
+
+pub proposal-leaves : (g : Generator) (from : ℕ) (q : List ℕ) → Leaves (g .view) 2 (proposalHeard g from q)
+unfolding proposalHeard
+proposal-leaves g from q =
+    let one = hears-leaves g from q in
+    let two = settles-leaves (hears g from q .next) in
+    record { for = two .for ∙ one .for; few = simp length-append (omega (arith, one .few, two .few)) }

@@ -12,8 +12,7 @@ use Rattle.rules.specs.Relays.{moved, onward, enters}
 use Rattle.state.specs.Meaning.{transferOf, partOf, eventOf}
 use Rattle.state.specs.Plans.{turnOf, turned}
 use Rattle.generator.proofs.Notes.{none-test, some-test}
-use Rattle.rules.proofs.Generators.{view-of}
-use Rattle.relay.proofs.Laws.{proposes-view}
+use Rattle.rules.proofs.Generators.{view-of, proposes-leaves}
 use Rattle.relay.proofs.enters.Statement.{statement}
 use Rattle.relay.proofs.enters.Tie as tie
 
@@ -41,7 +40,7 @@ returns-2 c =
       c2 .before .generator-for .ensures,
       c5 .before .onward .ensures,
     ) in
-    c .at-generator .ensures (proposes g (onward t)) (proposes-view g _ .view ∙ view-of _ _) e ∙ rw (c .before .moved2 .ensures, n)
+    c .at-generator .ensures (proposes g (onward t)) (proposes-leaves g _ .for ∙ view-of _ _) e ∙ rw (c .before .moved2 .ensures, n)
 
 pub enters-spec : {M : Type 1} → statement M
 enters-spec = tie.close (tie.spec (λ c κs. tt) (λ c κs. tt) (λ c κs. tt) (λ c κs. tt) returns (λ c κs. tt) (λ c κs. tt) (λ c κs. tt) at-generator-requires returns-2)

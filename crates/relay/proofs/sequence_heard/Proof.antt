@@ -5,8 +5,8 @@ use borrow.Author.Tests.{not-true, not-false}
 use Rattle.rules.specs.Messages.{bad-step}
 use Rattle.state.specs.Meaning.{partOf}
 use Rattle.relay.specs.Fitting.{showsView}
-use Rattle.rules.proofs.Generators.{view-of}
-use Rattle.relay.proofs.Laws.{heard-view, converged-view}
+use Rattle.rules.proofs.Generators.{view-of, converged-leaves}
+use Rattle.relay.proofs.Laws.{heard-view}
 use Rattle.relay.proofs.sequence_heard.Statement.{statement}
 use Rattle.relay.proofs.sequence_heard.Tie as tie
 
@@ -19,12 +19,12 @@ returns c = c .refuses .ensures bad-step refl ∙ rw (sym (c .before .before .sh
 returns-2 : tie.Need-returns-2
 returns-2 c =
     let t = c .before .before in
-    c .at-generator .ensures _ (converged-view _ _ _ .view ∙ view-of _ _) (rw (t .before .generator-for .ensures) at (c .before .converged-heard .ensures)) ∙ rw (shown (t .before .before), t .if2 .taken)
+    c .at-generator .ensures _ (converged-leaves _ _ _ .for ∙ view-of _ _) (rw (t .before .generator-for .ensures) at (c .before .converged-heard .ensures)) ∙ rw (shown (t .before .before), t .if2 .taken)
 
 returns-3 : tie.Need-returns-3
 returns-3 c =
     let t = c .before .before in
-    c .at-generator2 .ensures _ (heard-view _ _ _ .view ∙ view-of _ _) (rw (t .before .generator-for .ensures) at (c .before .proposal-heard .ensures)) ∙ rw (shown (t .before .before), t .if2 .left)
+    c .at-generator2 .ensures _ (heard-view _ _ _ ∙ view-of _ _) (rw (t .before .generator-for .ensures) at (c .before .proposal-heard .ensures)) ∙ rw (shown (t .before .before), t .if2 .left)
 
 pub sequence-heard-spec : {M : Type 1} → statement M
 sequence-heard-spec =

@@ -10,8 +10,7 @@ use Rattle.rules.specs.Relays.{timerRang}
 use Rattle.state.specs.Meaning.{relayOf, partOf}
 use Rattle.state.specs.Plans.{turnOf, turned}
 use Rattle.relay.specs.Fitting.{timerAnswer}
-use Rattle.rules.proofs.Generators.{view-of}
-use Rattle.relay.proofs.Laws.{proposes-view}
+use Rattle.rules.proofs.Generators.{view-of, proposes-leaves}
 use Rattle.relay.proofs.timer_rang.Statement.{statement}
 use Rattle.relay.proofs.timer_rang.Tie as tie
 
@@ -58,7 +57,7 @@ returns-4 c =
       held (c2 .before .single .result) _ (c2 .before .single .ensures),
       c2 .before .before .join .ensures,
     ) in
-    c .at-generator .ensures (proposes g q) (proposes-view g q .view ∙ view-of _ _) e ∙ rw (
+    c .at-generator .ensures (proposes g q) (proposes-leaves g q .for ∙ view-of _ _) e ∙ rw (
       sym (c9 .before .shows-view .ensures) ∙ not-false _ (c9 .if1 .left),
       not-false (c9 .before .before .args .p .head .active) (c5 .before .before .if2 .left),
       sym (c5 .before .within .ensures) ∙ c5 .if3 .left,
