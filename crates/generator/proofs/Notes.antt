@@ -1,6 +1,6 @@
 -- Laws of the notes: one is made, none is there for a sender above 7, and the set of those that agree is built from the highest. Assumes nothing.
 use mathlib.Core.Path.{_≡_, refl, ap, _∙_}
-use mathlib.Core.Bool.{Bool, true, false}
+use mathlib.Core.Bool.{Bool}
 use mathlib.Core.List.{List, [], _∷_, map}
 use Prim.Native.Nat.{ℕ, zero, suc, _+_, _-_, _*_, _^_, _≤_, _<_}
 use native.Mathlib.Nat.{pow-suc, lt-of-lt-of-le}
@@ -11,7 +11,7 @@ use lib.Seq.{drop-cons}
 use mir.Val.{boolByte}
 use Rattle.views.specs.declared.Sequence.{Sequence}
 use Rattle.views.specs.Row.{viewsOf}
-use Rattle.rules.specs.Sets.{same, none}
+use Rattle.rules.specs.Sets.{same}
 use Rattle.rules.specs.Generators.{noted}
 use Rattle.rules.proofs.Lists.{byte-is, byte-le}
 
@@ -46,13 +46,3 @@ module _ (ns : List Sequence) (q : List ℕ) (full : length ns ≡ 8) where
       let l : j < length (map viewsOf ns) = simp length-map (omega arith) in
       ap (λ (k : ℕ). noted (drop k (map viewsOf ns)) q * 2 + boolByte b) ij
       ∙ rw (drop-cons (map viewsOf ns) j (viewsOf d) l, List·getD-map viewsOf ns j d, ← e, byte-is b)
-
--- ---- an empty sequence
-
-pub none-test : (l : List ℕ) → length l ≡ 0 → none l ≡ true
-none-test [] e = refl
-none-test (x ∷ l) e = absurd (omega arith)
-
-pub some-test : (l : List ℕ) → 0 < length l → none l ≡ false
-some-test [] h = absurd (omega arith)
-some-test (x ∷ l) h = refl

@@ -83,20 +83,6 @@ module _ (s : ℕ) where
 -- ---- no view
 
 module _ {n : ℕ} (l : List ℕ) (e : n ≡ length l) where
-  pub is-none : n ≡ 0 → none l ≡ true
-  is-none z = go l (sym e ∙ z)
-    where
-      go : (l : List ℕ) → length l ≡ 0 → none l ≡ true
-      go [] h = refl
-      go (x ∷ l) h = absurd (omega arith)
-
-  pub is-some : (n ≡ 0 → ⊥) → none l ≡ false
-  is-some f = go l (λ z. f (e ∙ z))
-    where
-      go : (l : List ℕ) → (length l ≡ 0 → ⊥) → none l ≡ false
-      go [] h = absurd (h refl)
-      go (x ∷ l) h = refl
-
   pub none-count : eqb n 0 ≡ none l
   none-count = rw e (go l)
     where

@@ -1,15 +1,15 @@
--- Lists and tests as the proofs of the code meet them: a mapped list of which one element is set, what passes of a list, a test as a byte.
+-- Lists and tests as the proofs of the code meet them: a mapped list of which one element is set, what passes of a list, whether it is empty, a test as a byte.
 -- Assumes nothing.
 use mathlib.Core.Path.{_≡_, refl, ap}
 use mathlib.Core.Bool.{Bool, true, false}
 use mathlib.Core.List.{List, [], _∷_, _++_, map}
-use Prim.Native.Nat.{ℕ, zero, suc, _≤_}
+use Prim.Native.Nat.{ℕ, zero, suc, _≤_, _<_}
 use native.Mathlib.Omega.{arith}
 use lib.Dec.{lit≤}
 use lib.ListN.{length, set}
 use mir.Val.{boolByte}
 use Rattle.views.proofs.Truth.{cases}
-use Rattle.rules.specs.Sets.{if_then_else_, those}
+use Rattle.rules.specs.Sets.{if_then_else_, those, none}
 
 pub map-set : {A B : Type 0} (f : A → B) (l : List A) (i : ℕ) (x : A) → map f (set l i x) ≡ set (map f l) i (f x)
 map-set f [] i x = refl
@@ -31,6 +31,14 @@ those-fewer f [] = omega arith
 those-fewer {A} f (x ∷ l) =
     let h : length (those f l) ≤ length l = those-fewer f l in
     cases (λ (k : List A). length k ≤ length (x ∷ l)) (f x) (λ _. omega arith) (λ _. omega arith)
+
+pub none-test : {A : Type 0} (l : List A) → length l ≡ 0 → none l ≡ true
+none-test [] e = refl
+none-test (x ∷ l) e = absurd (omega arith)
+
+pub some-test : {A : Type 0} (l : List A) → 0 < length l → none l ≡ false
+some-test [] h = absurd (omega arith)
+some-test (x ∷ l) h = refl
 
 pub byte-is : (b : Bool) → boolByte b ≡ (if b then 1 else 0)
 byte-is true = refl

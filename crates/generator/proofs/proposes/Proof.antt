@@ -8,7 +8,7 @@ use Rattle.views.specs.Row.{viewsOf}
 use Rattle.rules.specs.Sets.{none}
 use Rattle.rules.specs.Generators.{proposes, withOwn}
 use Rattle.state.specs.Meaning.{generatorOf}
-use Rattle.generator.proofs.Notes.{none-test, some-test}
+use Rattle.rules.proofs.Lists.{none-test, some-test}
 use Rattle.generator.proofs.proposes.Statement.{statement}
 use Rattle.generator.proofs.proposes.Tie as tie
 

@@ -11,7 +11,7 @@ use Rattle.rules.specs.Generators.{generatorFor, proposes}
 use Rattle.rules.specs.Relays.{moved, onward, enters}
 use Rattle.state.specs.Meaning.{transferOf, partOf, eventOf}
 use Rattle.state.specs.Plans.{turnOf, turned}
-use Rattle.generator.proofs.Notes.{none-test, some-test}
+use Rattle.rules.proofs.Lists.{none-test, some-test}
 use Rattle.rules.proofs.Generators.{view-of, proposes-leaves}
 use Rattle.relay.proofs.enters.Statement.{statement}
 use Rattle.relay.proofs.enters.Tie as tie

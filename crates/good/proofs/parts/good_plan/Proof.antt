@@ -1,17 +1,19 @@
 -- `good::parts::good_plan` meets its contract. Assumes nothing.
 use mathlib.Core.Bool.{not}
-use mathlib.Core.Path.{ap}
+use mathlib.Core.Path.{sym, ap, _∙_}
 use Prim.Native.Nat.{ℕ}
+use native.Mathlib.Omega.{arith}
 use lib.Dec.{eqb}
 use Rattle.views.specs.Row.{viewsOf}
 use Rattle.rules.specs.WellFormed.{goodPlan}
-use Rattle.good.proofs.Tests.{yes, no, fails, pass, last, is-none, is-some}
+use Rattle.rules.proofs.Lists.{none-test, some-test}
+use Rattle.good.proofs.Tests.{yes, no, fails, pass, last}
 use Rattle.good.proofs.parts.good_plan.Statement.{statement}
 use Rattle.good.proofs.parts.good_plan.Tie as tie
 
 returns : tie.Need-returns
 unfolding goodPlan
-returns c = fails _ 0 (ap not (is-none (viewsOf (c .before .before .args .q)) (c .before .count .ensures .0) (c .if1 .taken)))
+returns c = fails _ 0 (ap not (none-test (viewsOf (c .before .before .args .q)) (sym (c .before .count .ensures .0) ∙ c .if1 .taken)))
 
 returns-2 : tie.Need-returns-2
 unfolding goodPlan
@@ -23,7 +25,7 @@ returns-3 c =
     let t = c .before in
     let u = t .before .before in
     let a = u .before .before .args in
-    pass _ _ (ap not (is-some (viewsOf (a .q)) (u .before .count .ensures .0) (u .if1 .left)))
+    pass _ _ (ap not (some-test (viewsOf (a .q)) (omega (arith, u .before .count .ensures .0, u .if1 .left))))
     (pass _ _ (yes (t .before .above .ensures) (t .if2 .left)) (last _ (ap (λ (x : ℕ). eqb x (a .w)) (c .least .ensures))))
 
 pub good-plan-spec : {M : Type 1} → statement M

@@ -3,7 +3,7 @@ use native.Mathlib.Omega.{arith}
 use Rattle.views.specs.Row.{viewsOf}
 use Rattle.rules.specs.Relays.{keeps}
 use Rattle.state.specs.Meaning.{transferOf}
-use Rattle.generator.proofs.Notes.{none-test, some-test}
+use Rattle.rules.proofs.Lists.{none-test, some-test}
 use Rattle.relay.proofs.transfers.keeps.Statement.{statement}
 use Rattle.relay.proofs.transfers.keeps.Tie as tie
 
