@@ -1,29 +1,22 @@
 -- What the tests of a reply say. Assumes nothing.
-use Prim.Native.Nat.{ℕ, _<_, _≤_, _+_}
+use Prim.Native.Nat.{ℕ, _≤_, _+_}
 use mathlib.Core.Path.{_≡_, refl, _∙_}
-use mathlib.Core.Bool.{Bool, true, false, not, _&&_, _||_, and-eq-true-iff}
+use mathlib.Core.Bool.{Bool, true, false, _&&_, _||_, and-eq-true-iff}
 use native.Mathlib.Omega.{arith}
 use lib.Dec.{eqb, leb}
 use borrow.Author.Tests.{leb-true, eqb-false, ne-eqb}
 use Rattle.views.proofs.Truth.{cases, contrary}
-use Rattle.views.proofs.Sets.{member-lt}
-use Rattle.rules.specs.Sets.{if_then_else_, member}
+use Rattle.rules.specs.Sets.{if_then_else_}
 use Rattle.rules.specs.Messages as rules
 use Rattle.rules.specs.declared.Desk.{Desk}
 use Rattle.rules.specs.Image.{bodyIn}
-use Rattle.rules.specs.Desks.{isIdle, current, viewCame, pairCame, ackCame, deskHears}
+use Rattle.rules.specs.Desks.{current, viewCame, pairCame, ackCame, deskHears}
 use Rattle.state.specs.declared.Body.{Body}
 use Rattle.state.specs.Meaning.{bodyOf}
 
 pub or-if : (a b : Bool) → a || b ≡ (if a then true else b)
 or-if true b = refl
 or-if false b = refl
-
-pub current-below : (d : Desk) (from try : ℕ) → current d from try ≡ true → from < 8
-current-below d from try e =
-    member-lt (d .view) from
-    (and-eq-true-iff (eqb try (d .tries)) (member (d .view) from) .0
-    (and-eq-true-iff (not (isIdle (d .phase))) (eqb try (d .tries) && member (d .view) from) .0 e .1) .1)
 
 -- the kinds 1 to 8 are no replies
 record Quiet (n : ℕ) (d : Desk) (from : ℕ) (x : rules.Body) : Type 0 where

@@ -96,6 +96,11 @@ cleared-fits d Write2 v p t e = hold-tests _ (e, (refl, tt))
 cleared-good : (d : Desk) (ph : Phase) (v : ℕ) (p : Pair) (t : ℕ) → v < 65536 → t < 65536 → holdsFit ph p ≡ true → Dsk (cleared d ph v p t)
 cleared-good d ph v p t l k e = record { view = l; tries = k; who = eq-eqb _ _ (and-zero-l (members v)); phase = cleared-fits d ph v p t e }
 
+-- a reply that is current is a member's
+pub current-member : (d : Desk) (from try : ℕ) → current d from try ≡ true → member (d .view) from ≡ true
+current-member d from try e =
+    and-eq-true-iff (eqb try _) (member (d .view) from) .0 (and-eq-true-iff (not (isIdle (d .phase))) _ .0 e .1) .1
+
 module _ (n : ℕ) (desk : n < 4) where
   desk-number : isDesk (8 + n) ≡ true
   desk-number = and-eq-true-iff _ _ .1 (le-leb 8 (8 + n) (omega arith), lt-ltb (8 + n) 12 (omega arith))
@@ -198,10 +203,6 @@ module _ (n : ℕ) (desk : n < 4) where
     ack-noted : isSecond (d .phase) ≡ true → Dsk (notesAck d from)
     unfolding notesAck
     ack-noted f = record { view = h .view; tries = h .tries; who = more-replied; phase = phase-acked (d .phase) f (h .phase) }
-
-  current-member : (d : Desk) (from try : ℕ) → current d from try ≡ true → member (d .view) from ≡ true
-  current-member d from try e =
-      and-eq-true-iff (eqb try _) (member (d .view) from) .0 (and-eq-true-iff (not (isIdle (d .phase))) _ .0 e .1) .1
 
   pub pair-kept : (d : Desk) (from try : ℕ) (p : Pair) → Dsk d → isPair p ≡ true → GoodAnswer n (pairCame n d from try p)
   unfolding pairCame

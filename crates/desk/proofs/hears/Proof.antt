@@ -3,11 +3,13 @@ use mathlib.Core.Path.{_≡_, sym, _∙_}
 use mathlib.Core.Bool.{true}
 use Prim.Native.Nat.{_<_}
 use borrow.Author.Tests.{not-true, not-false, lt-ltb}
+use Rattle.views.proofs.Sets.{member-lt}
 use Rattle.rules.specs.Desks.{current, viewCame, pairCame, ackCame, deskHears}
 use Rattle.rules.specs.Image.{bodyIn}
+use Rattle.rules.proofs.Desks.{current-member}
 use Rattle.state.specs.Meaning.{bodyOf}
 use Rattle.desk.specs.Replies.{replyNoted}
-use Rattle.desk.proofs.Laws.{current-below, no-reply, says-ack, unheard}
+use Rattle.desk.proofs.Laws.{no-reply, says-ack, unheard}
 use Rattle.desk.proofs.hears.Statement.{statement}
 use Rattle.desk.proofs.hears.Tie as tie
 
@@ -15,7 +17,7 @@ now : (c : tie.Else2) → let a = c .before .before .before .args in current (a 
 now c = sym (c .before .current .ensures) ∙ not-false _ (c .if2 .left)
 
 below : (c : tie.Else2) → c .before .before .before .args .from < 8
-below c = let a = c .before .before .before .args in current-below (a .d) (a .from) (a .b .tries) (now c)
+below c = let a = c .before .before .before .args in member-lt (a .d .view) (a .from) (current-member (a .d) (a .from) (a .b .tries) (now c))
 
 returns : tie.Need-returns
 returns c =
