@@ -11,8 +11,8 @@ use Rattle.views.specs.Row.{viewsOf}
 use Rattle.rules.specs.Sets.{if_then_else_, _&&_, those}
 use Rattle.rules.specs.State.{Generator, Transfer, free, waiting}
 use Rattle.rules.specs.Messages as rules
-use Rattle.rules.specs.Messages.{request, view, proposal, converged, install, state, get, put, viewReply, pairReply, ack}
-use Rattle.rules.specs.Image.{Row, row, bodyRow, placeRow, bodyIn, placeIn, rowBytes, placeBytes, headBytes, relayAt, generatorAt, transferAt, filledGenerator, filledTransfer}
+use Rattle.rules.specs.Image.{bodyRow, placeRow, bodyIn, placeIn, rowBytes, placeBytes, headBytes, relayAt, generatorAt, transferAt, filledGenerator, filledTransfer}
+use Rattle.rules.proofs.ImageRows.{addressed, row-of}
 use Rattle.state.specs.declared.Head.{Head}
 use Rattle.state.specs.declared.Body.{Body}
 use Rattle.state.specs.declared.Message.{Message}
@@ -50,43 +50,11 @@ module _ (m : Message) where
 
 -- ---- a plain body's row is the row of what it says
 
-addressed : ℕ → ℕ → Row → Row
-addressed s r m = row (m .kind) s r (m .first) (m .second) (m .tries) (m .sequence) (m .pair) (m .updates)
-
-body-addressed : (s r : ℕ) (x : rules.Body) → bodyRow s r x ≡ addressed s r (bodyRow 0 0 x)
-unfolding addressed
-body-addressed s r (request u c) = refl
-body-addressed s r (view v) = refl
-body-addressed s r (proposal v q) = refl
-body-addressed s r (converged v q) = refl
-body-addressed s r (install o w q) = refl
-body-addressed s r (state o w p u) = refl
-body-addressed s r (get try c) = refl
-body-addressed s r (put try c p) = refl
-body-addressed s r (viewReply try v) = refl
-body-addressed s r (pairReply try p) = refl
-body-addressed s r (ack try) = refl
-
--- what a body's row says is the body
-body-back : (x : rules.Body) → bodyIn (bodyRow 0 0 x) ≡ x
-unfolding bodyIn
-body-back (request u c) = refl
-body-back (view v) = refl
-body-back (proposal v q) = refl
-body-back (converged v q) = refl
-body-back (install o w q) = refl
-body-back (state o w p u) = refl
-body-back (get try c) = refl
-body-back (put try c p) = refl
-body-back (viewReply try v) = refl
-body-back (pairReply try p) = refl
-body-back (ack try) = refl
-
 module _ (b : Body) (x : rules.Body) (e : addressedRow 0 0 b ≡ bodyRow 0 0 x) where
-  -- so of a body that is made for x it is enough to say its row
+  -- a body's row says the body: so of a body that is made for x it is enough to say its row
   pub made-means : bodyOf b ≡ x
   unfolding bodyOf addressedRow
-  made-means = ap bodyIn e ∙ body-back x
+  made-means = ap bodyIn e ∙ row-of 0 0 x .says
 
   pub made-plain : Plain b
   made-plain = record { is = e ∙ ap (bodyRow 0 0) (sym made-means) }
@@ -94,7 +62,7 @@ module _ (b : Body) (x : rules.Body) (e : addressedRow 0 0 b ≡ bodyRow 0 0 x) 
 module _ (m : Message) (p : Plain (m .body)) where
   pub plain-row : messageRow m ≡ placeRow (waiting (messageOf m))
   unfolding messageRow addressedRow messageOf addressed
-  plain-row = ap (addressed (m .from) (m .to)) (p .is) ∙ sym (body-addressed (m .from) (m .to) (bodyOf (m .body)))
+  plain-row = ap (addressed (m .from) (m .to)) (p .is) ∙ sym (row-of (m .from) (m .to) (bodyOf (m .body)) .ends)
 
   pub plain-bytes : rowBytes (messageRow m) ≡ placeBytes (waiting (messageOf m))
   unfolding placeBytes

@@ -20,7 +20,7 @@ use Rattle.rules.specs.Messages.{Body, request, view, proposal, converge
 use Rattle.rules.specs.State.{Generator, Transfer, Relay, Phase, Idle, Read1, Read2, Write1, Write2, Desk, Place, free, waiting}
 use Rattle.rules.specs.Generators.{fresh}
 use Rattle.rules.specs.Relays.{freshTransfer}
-use Rattle.rules.specs.Image.{flag, byte, sequenceBytes, pairBytes, headBytes, generatorBytes, transferBytes, relayBytes, phaseNumber, deskBytes, Row, bodyRow, placeRow, rowBytes, placeBytes, flagAt, sequenceAt, pairAt, generatorAt, transferAt, filledGenerator, filledTransfer, relayAt, phaseOf, deskAt, rowAt, bodyIn, placeIn, pairFields, headFields, generatorFields, transferFields, relayFields, deskFields, rowFields}
+use Rattle.rules.specs.Image.{flag, byte, sequenceBytes, pairBytes, headBytes, generatorBytes, transferBytes, relayBytes, phaseNumber, deskBytes, Row, row, bodyRow, placeRow, rowBytes, placeBytes, flagAt, sequenceAt, pairAt, generatorAt, transferAt, filledGenerator, filledTransfer, relayAt, phaseOf, deskAt, rowAt, bodyIn, placeIn, pairFields, headFields, generatorFields, transferFields, relayFields, deskFields, rowFields}
 use Rattle.rules.proofs.Lists.{those-append}
 use Rattle.rules.proofs.ImageWidths.{length-sequence, pairWidths, pair-widths, headWidths, head-widths, generatorWidths, generator-widths, length-generator, transferWidths, transfer-widths, length-transfer, relayWidths, relay-widths, deskWidths, desk-widths, rowWidths, row-widths}
 use Rattle.rules.proofs.ImageFits.{SequenceFits, PairFits, NotesFit, GeneratorFits, TransferFits, RowsFit, RelayFits, DeskFits, RowFits}
@@ -222,25 +222,36 @@ row-back l o m f h =
       updates = holds-u16 l (o + 47) (m .updates) (f .updates) (at 8 (omega arith)) j;
     }
 
--- every place is what its row says, whatever it says
-body-in : (s r : ℕ) (b : Body) → placeIn (bodyRow s r b) ≡ waiting (record { from = s; to = r; body = b })
-unfolding placeIn bodyIn
-body-in s r (request u c) = refl
-body-in s r (view v) = refl
-body-in s r (proposal v q) = refl
-body-in s r (converged v q) = refl
-body-in s r (install o w q) = refl
-body-in s r (state o w p u) = refl
-body-in s r (get try c) = refl
-body-in s r (put try c p) = refl
-body-in s r (viewReply try v) = refl
-body-in s r (pairReply try p) = refl
-body-in s r (ack try) = refl
+-- a row with another sender and receiver
+unfoldable pub addressed : ℕ → ℕ → Row → Row
+addressed s r m = row (m .kind) s r (m .first) (m .second) (m .tries) (m .sequence) (m .pair) (m .updates)
 
+-- the row of a body: its kind is not 0, only its ends are not the body's, and it says the body and the place that waits
+pub record RowOf (s r : ℕ) (b : Body) : Type 0 where
+  pub kind : eqb (bodyRow s r b .kind) 0 ≡ false
+  pub ends : bodyRow s r b ≡ addressed s r (bodyRow 0 0 b)
+  pub says : bodyIn (bodyRow s r b) ≡ b
+  pub waits : placeIn (bodyRow s r b) ≡ waiting (record { from = s; to = r; body = b })
+
+pub row-of : (s r : ℕ) (b : Body) → RowOf s r b
+unfolding addressed bodyIn placeIn
+row-of s r (request u c) = record { kind = refl; ends = refl; says = refl; waits = refl }
+row-of s r (view v) = record { kind = refl; ends = refl; says = refl; waits = refl }
+row-of s r (proposal v q) = record { kind = refl; ends = refl; says = refl; waits = refl }
+row-of s r (converged v q) = record { kind = refl; ends = refl; says = refl; waits = refl }
+row-of s r (install o w q) = record { kind = refl; ends = refl; says = refl; waits = refl }
+row-of s r (state o w p u) = record { kind = refl; ends = refl; says = refl; waits = refl }
+row-of s r (get try c) = record { kind = refl; ends = refl; says = refl; waits = refl }
+row-of s r (put try c p) = record { kind = refl; ends = refl; says = refl; waits = refl }
+row-of s r (viewReply try v) = record { kind = refl; ends = refl; says = refl; waits = refl }
+row-of s r (pairReply try p) = record { kind = refl; ends = refl; says = refl; waits = refl }
+row-of s r (ack try) = record { kind = refl; ends = refl; says = refl; waits = refl }
+
+-- every place is what its row says, whatever it says
 pub place-in : (p : Place) → placeIn (placeRow p) ≡ p
 unfolding placeIn
 place-in free = refl
-place-in (waiting m) = body-in (m .from) (m .to) (m .body)
+place-in (waiting m) = row-of (m .from) (m .to) (m .body) .waits
 
 pub place-back : (l : List ℕ) (o : ℕ) (p : Place) → RowFits (placeRow p) → Holds l o (placeBytes p) → placeIn (rowAt l o) ≡ p
 unfolding placeBytes

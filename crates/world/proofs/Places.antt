@@ -15,14 +15,15 @@ use Rattle.rows.specs.Bytes.{placed, splice, tab, cat, zeros}
 use Rattle.rows.proofs.Laws.{Holds, holds-byte, placed-fits}
 use Rattle.rows.proofs.Change.{Changed, changed-first, changed-more, changed-set}
 use Rattle.rules.specs.Sets.{if_then_else_, bit, those}
-use Rattle.rules.specs.Messages.{Body, request, view, proposal, converged, install, state, get, put, viewReply, pairReply, ack, Message, Sending, copies}
+use Rattle.rules.specs.Messages.{Message, Sending, copies}
 use Rattle.rules.specs.State.{Place, free, waiting, World, placeAt, withPlaces}
 use Rattle.rules.specs.Sending.{place, placeAll, freeIn}
 use Rattle.rules.specs.Steps.{freed}
-use Rattle.rules.specs.Image.{bodyRow, placeRow, rowBytes, placeBytes, image}
+use Rattle.rules.specs.Image.{placeRow, rowBytes, placeBytes, image}
 use Rattle.rules.proofs.Table.{isFree}
 use Rattle.rules.proofs.Kept.{places-length}
 use Rattle.rules.proofs.ImageWidths.{length-place, length-image}
+use Rattle.rules.proofs.ImageRows.{row-of}
 use Rattle.rules.proofs.ImageRead.{holds-place}
 use Rattle.rules.proofs.ImageWrite.{put-place}
 use Rattle.rules.proofs.ImageZeros.{place-zeros}
@@ -31,22 +32,9 @@ use Rattle.world.proofs.Lists.{those-more, those-same}
 
 -- ---- a place's kind is 0 exactly where it is free
 
-body-kind : (s r : ℕ) (b : Body) → eqb (bodyRow s r b .kind) 0 ≡ false
-body-kind s r (request u c) = refl
-body-kind s r (view v) = refl
-body-kind s r (proposal v q) = refl
-body-kind s r (converged v q) = refl
-body-kind s r (install o w q) = refl
-body-kind s r (state o w p u) = refl
-body-kind s r (get try c) = refl
-body-kind s r (put try c p) = refl
-body-kind s r (viewReply try v) = refl
-body-kind s r (pairReply try p) = refl
-body-kind s r (ack try) = refl
-
 place-kind : (p : Place) → eqb (placeRow p .kind) 0 ≡ isFree p
 place-kind free = refl
-place-kind (waiting m) = body-kind (m .from) (m .to) (m .body)
+place-kind (waiting m) = row-of (m .from) (m .to) (m .body) .kind
 
 kind-byte : (l : List ℕ) (o : ℕ) (p : Place) → Holds l o (placeBytes p) → getD l o 0 ≡ placeRow p .kind
 unfolding placeBytes rowBytes cat
