@@ -1,11 +1,11 @@
--- Laws of the notes: one is made, none is there for a sender above 7, and the set of those that agree is built from the highest. Assumes nothing.
-use mathlib.Core.Path.{_≡_, refl, ap, _∙_}
+-- Laws of the notes: the set of those that agree is built from the highest. Assumes nothing.
+use mathlib.Core.Path.{_≡_, ap, _∙_}
 use mathlib.Core.Bool.{Bool}
 use mathlib.Core.List.{List, [], _∷_, map}
-use Prim.Native.Nat.{ℕ, zero, suc, _+_, _-_, _*_, _^_, _≤_, _<_}
+use Prim.Native.Nat.{ℕ, suc, _+_, _-_, _*_, _^_, _≤_, _<_}
 use native.Mathlib.Nat.{pow-suc, lt-of-lt-of-le}
 use native.Mathlib.Omega.{arith}
-use lib.ListN.{length, getD, set, drop, length-drop, length-map, List·getD-map, drop-of-length-le}
+use lib.ListN.{length, getD, drop, length-drop, length-map, List·getD-map, drop-of-length-le}
 use lib.Pow.{pow-mono}
 use lib.Seq.{drop-cons}
 use mir.Val.{boolByte}
@@ -14,13 +14,6 @@ use Rattle.views.specs.Row.{viewsOf}
 use Rattle.rules.specs.Sets.{same}
 use Rattle.rules.specs.Generators.{noted}
 use Rattle.rules.proofs.Lists.{byte-is, byte-le}
-
--- ---- a note is made
-
-pub set-past : {A : Type 0} (l : List A) (i : ℕ) (x : A) → length l ≤ i → l ≡ set l i x
-set-past [] i x h = refl
-set-past (y ∷ l) zero x h = absurd (omega arith)
-set-past {A} (y ∷ l) (suc i) x h = ap (λ (m : List A). y ∷ m) (set-past l i x (omega arith))
 
 -- ---- who agrees
 

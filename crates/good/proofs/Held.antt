@@ -1,6 +1,6 @@
 -- Tests of each number below n, as tests of lists, and of bytes that stand in a buffer. Assumes nothing.
 use mathlib.Core.Path.{_≡_, refl, sym, ap, _∙_}
-use mathlib.Core.Bool.{Bool, true, false, not, and-true}
+use mathlib.Core.Bool.{Bool, true, false, not, and-true, and-assoc}
 use mathlib.Core.List.{List, [], _∷_, _++_}
 use Prim.Native.Nat.{ℕ, zero, suc, _+_, _*_, _-_, _≤_, _<_}
 use native.Mathlib.Nat.{add-zero, zero-add, add-assoc}
@@ -26,10 +26,6 @@ pub all-same : (n : ℕ) (f g : ℕ → Bool) → ((k : ℕ) → k < n → f k �
 unfolding all
 all-same zero f g h = refl
 all-same (suc n) f g h = rw (all-same n f g (λ k p. h k (omega arith)), h n (omega arith))
-
-pub and-assoc : (a b c : Bool) → (a && b) && c ≡ a && (b && c)
-and-assoc true b c = refl
-and-assoc false b c = refl
 
 module _ {A : Type 0} where
   from-append : (n : ℕ) (f : ℕ → A → Bool) (xs : List A) (x : A) → allFrom n f (xs ++ (x ∷ [])) ≡ allFrom n f xs && f (n + length xs) x

@@ -56,10 +56,6 @@ either-first b e = rw e
 pub either-next : {r a b : Bool} → a ≡ false → r ≡ b → r ≡ a || b
 either-next e h = rw e h
 
-pub twice : (b : Bool) → b ≡ not (not b)
-twice true = refl
-twice false = refl
-
 -- ---- in range by its type
 
 pub in-range : {x : ℕ} → Fits w16 x → ltb x 65536 ≡ true

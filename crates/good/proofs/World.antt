@@ -1,6 +1,6 @@
 -- The rows of a buffer are good exactly when the world that it means is well formed and the buffer is its image. Assumes nothing.
 use mathlib.Core.Path.{_≡_, refl, sym, ap, _∙_}
-use mathlib.Core.Bool.{Bool, true, false, not, and-eq-true-iff, and-false, and-true}
+use mathlib.Core.Bool.{Bool, true, false, not, and-eq-true-iff, and-false, and-true, and-assoc}
 use mathlib.Core.List.{List, [], _∷_, _++_}
 use Prim.Native.Nat.{ℕ, _+_, _*_, _≤_, _<_}
 use native.Mathlib.Nat.{zero-add, add-zero}
@@ -36,7 +36,7 @@ use Rattle.image.specs.Parts.{headAt}
 use Rattle.image.proofs.Parts.{relay-parts, head-alone}
 use Rattle.good.specs.Rows.{held, differs, headGood, rowGood, otherRow, placeFilled, filledGood, deskGood, placeGood, relayGood, rowsGood}
 use Rattle.good.proofs.Tests.{no-generators, no-transfers}
-use Rattle.good.proofs.Held.{and-assoc, from-tab, all-tab, held-true, held-fact}
+use Rattle.good.proofs.Held.{from-tab, all-tab, held-true, held-fact}
 use Rattle.good.proofs.Rows.{rows-same}
 
 -- ---- a relay's tables

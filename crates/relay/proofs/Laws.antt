@@ -1,6 +1,6 @@
 -- Laws of what a part shows, and of the rules at it. Assumes nothing.
 use mathlib.Core.Path.{_≡_, refl, sym, ap, _∙_}
-use mathlib.Core.Bool.{Bool, true, false, _&&_}
+use mathlib.Core.Bool.{Bool, true, false, _&&_, and-true}
 use mathlib.Core.List.{List, [], _∷_}
 use Prim.Native.Nat.{ℕ, _*_, _%_, _^_, _<_}
 use native.Mathlib.Nat.{one-mul}
@@ -47,10 +47,6 @@ unfolding learns
 known-either r v = known-if (inside (r .known) v) r v
 
 -- ---- what a part shows is at most one
-
-pub and-true : (b : Bool) → b && true ≡ b
-and-true true = refl
-and-true false = refl
 
 pub put-generator : (b : Bool) (h g : Generator) (v : ℕ) → all (λ x. eqb (x .view) v) (asList b h) ≡ true → g .view ≡ v → putGenerator g (asList b h) ≡ g ∷ []
 unfolding all putGenerator

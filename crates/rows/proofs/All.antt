@@ -1,7 +1,7 @@
 -- Laws of `all`, as a loop that stops at the first failure asks for them.
 -- Assumes nothing.
 use mathlib.Core.Path.{_≡_, refl, sym}
-use mathlib.Core.Bool.{Bool, true, false, _&&_, false≢true}
+use mathlib.Core.Bool.{Bool, true, false, _&&_, and-false, and-eq-true-iff}
 use Prim.Native.Nat.{ℕ, zero, suc, _+_, _≤_, _<_}
 use native.Mathlib.Numerals.{add-one}
 use native.Mathlib.Decide.{ℕ-discrete}
@@ -9,18 +9,6 @@ use native.Mathlib.Omega.{arith}
 use lib.Dec.{leb}
 use borrow.Author.Tests.{leb-true, leb-false}
 use Rattle.rows.specs.Tests.{all}
-
-and-false : (b : Bool) → (b && false) ≡ false
-and-false true = refl
-and-false false = refl
-
-pub and-left : (a b : Bool) → (a && b) ≡ true → a ≡ true
-and-left true b e = refl
-and-left false b e = e
-
-pub and-right : (a b : Bool) → (a && b) ≡ true → b ≡ true
-and-right true b e = e
-and-right false b e = absurd (false≢true e)
 
 pub all-none : (f : ℕ → Bool) → all 0 f ≡ true
 unfolding all
@@ -42,10 +30,10 @@ all-fails (suc n) i f h e = go (ℕ-discrete i n) (λ q. all-fails n i f (omega 
 pub all-at : (n i : ℕ) (f : ℕ → Bool) → all n f ≡ true → i < n → f i ≡ true
 unfolding all
 all-at zero i f e h = absurd (omega arith)
-all-at (suc n) i f e h = go (ℕ-discrete i n) (λ q. all-at n i f (and-left (all n f) (f n) e) (omega arith))
+all-at (suc n) i f e h = go (ℕ-discrete i n) (λ q. all-at n i f (and-eq-true-iff (all n f) (f n) .0 e .0) (omega arith))
   where
     go : Dec (i ≡ n) → ((i ≡ n → ⊥) → f i ≡ true) → f i ≡ true
-    go (yes p) _ = rw p (and-right (all n f) (f n) e)
+    go (yes p) _ = rw p (and-eq-true-iff (all n f) (f n) .0 e .1)
     go (no q) rec = rec q
 
 pub all-every : (n : ℕ) (f : ℕ → Bool) → ((k : ℕ) → k < n → f k ≡ true) → all n f ≡ true

@@ -2,12 +2,12 @@
 use mathlib.Core.Path.{_≡_, refl, sym, ap, _∙_}
 use mathlib.Core.Logic.{⊎-elim}
 use mathlib.Core.Bool.{Bool, true, false, not, _&&_}
-use mathlib.Core.List.{List, [], _∷_}
+use mathlib.Core.List.{List}
 use Prim.Native.Nat.{ℕ, _+_, _*_, _-_, _<_}
 use native.Mathlib.Nat.{zero-add}
 use native.Mathlib.Omega.{arith}
 use lib.Dec.{eqb, ltb}
-use lib.ListN.{length, getD}
+use lib.ListN.{List·getD-eq-default, length, getD}
 use borrow.Author.Tests.{lt-ltb, not-true, ltb-true, ltb-false}
 use Rattle.views.proofs.Truth.{decided}
 use Rattle.rows.specs.Bytes.{u16At}
@@ -32,13 +32,6 @@ use Rattle.locality.proofs.Table.{byView, byMove}
 use Rattle.locality.proofs.Seat.{present}
 use Rattle.locality.proofs.Part.{seatOfView, seatOfMove, generator-there, generator-absent, transfer-there, transfer-absent}
 use Rattle.world.proofs.Lists.{seat-found}
-
-last : {A : Type 0} (l : List A) (d : A) → getD l (length l) d ≡ d
-last [] d = refl
-last (x ∷ l) d = last l d
-
-past : {A : Type 0} (l : List A) (i : ℕ) (d : A) → i ≡ length l → getD l i d ≡ d
-past l i d e = rw e (last l d)
 
 -- ---- whatever the bytes are
 
@@ -145,7 +138,7 @@ module _ (b : List ℕ) (good : goodBytes b ≡ true) where
 
           none : i ≡ length (r .generators) → ltb i 8 && not (eqb (u16At b (s * 5440 + 64 + i * 592)) 0) ≡ false
           none h =
-              ⊎-elim (λ l. let q = row-view i (ltb-true i 8 l) ∙ ap (λ (x : Generator). x .view) (past (r .generators) i (fresh 0) h) in rw (l, q) (unfold fresh in refl)) (λ l. rw l) (decided (ltb i 8))
+              ⊎-elim (λ l. let q = row-view i (ltb-true i 8 l) ∙ ap (λ (x : Generator). x .view) (List·getD-eq-default (r .generators) (fresh 0) {n = i} (omega arith)) in rw (l, q) (unfold fresh in refl)) (λ l. rw l) (decided (ltb i 8))
 
           no : seatOfView v (r .generators) ≡ i → i ≡ length (r .generators) → asList there g ≡ narrow r v m .generators
           no at h = rw (e ∙ none h, generator-absent s r (good-relay s) v m (at ∙ h))
@@ -165,7 +158,7 @@ module _ (b : List ℕ) (good : goodBytes b ≡ true) where
 
           none : i ≡ length (r .transfers) → ltb i 8 && not (eqb (u16At b (s * 5440 + 4800 + i * 80 + 2)) 0) ≡ false
           none h =
-              ⊎-elim (λ l. let q = row-new i (ltb-true i 8 l) ∙ ap (λ (x : Transfer). x .new) (past (r .transfers) i (freshTransfer 0 0) h) in rw (l, q) (unfold freshTransfer in refl)) (λ l. rw l) (decided (ltb i 8))
+              ⊎-elim (λ l. let q = row-new i (ltb-true i 8 l) ∙ ap (λ (x : Transfer). x .new) (List·getD-eq-default (r .transfers) (freshTransfer 0 0) {n = i} (omega arith)) in rw (l, q) (unfold freshTransfer in refl)) (λ l. rw l) (decided (ltb i 8))
 
           no : seatOfMove (move o n) (r .transfers) ≡ i → i ≡ length (r .transfers) → asList there t ≡ narrow r v (move o n) .transfers
           no at h = rw (e ∙ none h, transfer-absent s r (good-relay s) v (move o n) (at ∙ h))

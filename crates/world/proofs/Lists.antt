@@ -1,4 +1,4 @@
--- Lists, as the loops of this crate ask for them: the first that passes, the part that passes of a list that grows, and one place written twice.
+-- Lists, as the loops of this crate ask for them: the first that passes, the part that passes of a list that grows, and one place written with what it holds.
 -- Assumes nothing.
 use mathlib.Core.Path.{_≡_, refl, sym, ap, _∙_}
 use mathlib.Core.Logic.{⊎-elim}
@@ -9,7 +9,7 @@ use native.Mathlib.Numerals.{add-one}
 use native.Mathlib.Decide.{ℕ-discrete}
 use native.Mathlib.Omega.{arith}
 use lib.Dec.{leb, lit≤}
-use lib.ListN.{length, getD, set}
+use lib.ListN.{List·getD-eq-default, length, getD, set}
 use borrow.Author.Tests.{leb-true, leb-false}
 use Rattle.views.proofs.Truth.{decided, contrary, neither-true, either-true}
 use Rattle.rows.specs.Bytes.{tab}
@@ -70,19 +70,12 @@ module _ {A : Type 0} (f g : A → Bool) (h : (x : A) → f x ≡ true → g x �
 module _ {A : Type 0} (xs : List A) (d : A) (blank f : A → Bool) (n : ℕ) (stop : ℕ → Bool)
     (few : length xs ≤ n) (ends : blank d ≡ true) (filled : (k : ℕ) → k < length xs → blank (getD xs k d) ≡ false)
     (is : (k : ℕ) → k < n → stop k ≡ (blank (getD xs k d) || f (getD xs k d))) where
-  past : getD xs (length xs) d ≡ d
-  past = go xs
-    where
-      go : (l : List A) → getD l (length l) d ≡ d
-      go [] = refl
-      go (x ∷ l) = go l
-
   pub seat-found : (i : ℕ) → First n stop i → seat f xs ≡ i
   seat-found i r =
       seat-is f xs i d short (λ k p. neither-true (blank (getD xs k d)) (f (getD xs k d)) (sym (is k (omega (arith, r .within))) ∙ r .below k p) .1) here
     where
       last : length xs < i → stop (length xs) ≡ true
-      last h = is (length xs) (omega (arith, r .within)) ∙ rw (past, ends)
+      last h = is (length xs) (omega (arith, r .within)) ∙ rw (List·getD-eq-default xs d {n = length xs} (omega arith), ends)
 
       short : i ≤ length xs
       short =
@@ -93,14 +86,9 @@ module _ {A : Type 0} (xs : List A) (d : A) (blank f : A → Bool) (n : ℕ) (st
           ⊎-elim (λ e. absurd (contrary e (filled i p))) (λ e. e)
           (either-true (blank (getD xs i d)) (f (getD xs i d)) (sym (is i (omega arith)) ∙ r .here (omega arith)))
 
--- ---- one place of a list, written twice, and written with what it holds
+-- ---- one place of a list, written with what it holds
 
 module _ {A : Type 0} where
-  pub set-twice : (xs : List A) (i : ℕ) (a b : A) → set (set xs i a) i b ≡ set xs i b
-  set-twice [] i a b = refl
-  set-twice (x ∷ xs) zero a b = refl
-  set-twice (x ∷ xs) (suc i) a b = ap (λ (l : List A). x ∷ l) (set-twice xs i a b)
-
   pub set-self : (xs : List A) (i : ℕ) (d : A) → set xs i (getD xs i d) ≡ xs
   set-self [] i d = refl
   set-self (x ∷ xs) zero d = refl

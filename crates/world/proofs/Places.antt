@@ -2,7 +2,7 @@
 use mathlib.Core.Path.{_≡_, refl, sym, ap, _∙_}
 use mathlib.Core.Logic.{_≢_, ⊎-elim}
 use mathlib.Core.Bool.{true, false}
-use mathlib.Core.List.{List, [], _∷_, _++_, map}
+use mathlib.Core.List.{List, [], _∷_, _++_, map, map-append}
 use Prim.Native.Nat.{ℕ, zero, suc, _+_, _*_, _≤_, _<_, suc-le-suc}
 use native.Mathlib.Nat.{le-of-suc-le-suc}
 use native.Mathlib.Numerals.{add-one}
@@ -174,10 +174,6 @@ all-copies from s = refl
 pub copies-length : (from : ℕ) (s : Sending) → length (copies from s) ≡ length (receiversBelow (s .receivers) 12)
 unfolding copiesBelow
 copies-length from s = ap length (all-copies from s) ∙ length-map (receiversBelow (s .receivers) 12) _
-
-map-append : {A B : Type 0} (f : A → B) (a b : List A) → map f (a ++ b) ≡ map f a ++ map f b
-map-append f [] b = refl
-map-append {B = B} f (x ∷ a) b = ap (λ (l : List B). f x ∷ l) (map-append f a b)
 
 module _ (m i : ℕ) where
   pub receiver-more : bit m i ≡ true → receiversBelow m (i + 1) ≡ receiversBelow m i ++ (i ∷ [])

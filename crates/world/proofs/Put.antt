@@ -8,7 +8,7 @@ use native.Mathlib.Nat.{add-zero, add-assoc}
 use native.Mathlib.Omega.{arith}
 use lib.Dec.{eqb, leb, ltb}
 use lib.ListN.{length, getD}
-use lib.Seq.{getD-set-same}
+use lib.Seq.{getD-set-same, set-set}
 use borrow.Author.Tests.{eq-eqb, ne-eqb, le-leb}
 use Rattle.views.proofs.Sets.{inside-lt, inside-fact}
 use Rattle.rows.specs.Bytes.{placed, splice, table, tab, u16At}
@@ -30,7 +30,7 @@ use Rattle.image.proofs.Parts.{head-alone}
 use Rattle.locality.specs.Narrow.{move, widened}
 use Rattle.world.specs.Commits.{First, endsView, endsMove, keptRows}
 use Rattle.locality.proofs.Part.{generators-fit, transfers-fit, generators-stay, generator-written, generator-room, transfers-stay, transfer-written, transfer-room, transfers-freed, freed-fewer}
-use Rattle.world.proofs.Lists.{set-twice, set-self, those-again}
+use Rattle.world.proofs.Lists.{set-self, those-again}
 use Rattle.world.proofs.Good.{relay-at, view-at, shaped, good-relay, seat-view, seat-move}
 
 -- ---- a piece written into the region of the relay s, which has become r
@@ -44,7 +44,7 @@ module _ (w : World) (sh : Shaped w) (s : ℕ) (hs : s < 8) where
       let is : relayAt u s ≡ r = getD-set-same (w .relays) s r noRelay (omega arith) in
       placed-fits (image u) v (s * 5440 + o) (omega (arith, length-image u))
       ∙ write-relay u (shaped-relay w sh s r) s o v q hs h (rw is e)
-      ∙ ap (λ (l : List Relay). image (record { relays = l; desks = w .desks; places = w .places })) (set-twice (w .relays) s r q)
+      ∙ ap (λ (l : List Relay). image (record { relays = l; desks = w .desks; places = w .places })) (set-set (w .relays) s r q)
 
   pub relay-same : image w ≡ image (withRelay w s (relayAt w s))
   relay-same = ap (λ (l : List Relay). image (record { relays = l; desks = w .desks; places = w .places })) (sym (set-self (w .relays) s noRelay))

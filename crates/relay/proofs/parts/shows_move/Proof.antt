@@ -1,10 +1,10 @@
 -- `relay::parts::shows_move` meets its contract. Assumes nothing.
+use mathlib.Core.Bool.{and-true}
 use native.Mathlib.Omega.{arith}
 use lib.Dec.{eqb}
 use borrow.Author.Tests.{eq-eqb, ne-eqb, not-true, not-false}
 use Rattle.rules.specs.Sets.{all}
 use Rattle.state.specs.Meaning.{transferOf, relayOf, partOf}
-use Rattle.relay.proofs.Laws.{and-true}
 use Rattle.relay.proofs.parts.shows_move.Statement.{statement}
 use Rattle.relay.proofs.parts.shows_move.Tie as tie
 

@@ -1,9 +1,9 @@
 -- `relay::parts::shows_view` meets its contract. Assumes nothing.
+use mathlib.Core.Bool.{and-true}
 use lib.Dec.{eqb}
 use borrow.Author.Tests.{not-true, not-false}
 use Rattle.rules.specs.Sets.{all}
 use Rattle.state.specs.Meaning.{generatorOf, relayOf, partOf}
-use Rattle.relay.proofs.Laws.{and-true}
 use Rattle.relay.proofs.parts.shows_view.Statement.{statement}
 use Rattle.relay.proofs.parts.shows_view.Tie as tie
 
