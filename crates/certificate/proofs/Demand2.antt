@@ -8,8 +8,7 @@ use native.Mathlib.Omega.{arith}
 use lib.ListN.{length, getD, drop, replicate, length-replicate}
 use lib.Seq.{take-all, drop-append-seam}
 use Rattle.rows.specs.Bytes.{numberAt}
-use Rattle.rules.specs.State.{Place, free, World, start}
-use Rattle.rules.specs.State as state
+use Rattle.rules.specs.State.{free, World, start}
 use Rattle.rules.specs.Sending.{waitingIn}
 use Rattle.rules.specs.WellFormed.{wellFormed}
 use Rattle.rules.specs.declared.Step.{Step}
@@ -30,6 +29,7 @@ use Rattle.world.specs.Answer.{lentOf, columns}
 use Rattle.world.specs.declared.Answer.{Answer}
 use Rattle.world.specs.Playing.{recordLeft}
 use Rattle.world.proofs.Moves.{few-delivered, few-dropped}
+use Rattle.world.proofs.Playing.{places-all}
 use Rattle.certificate.proofs.Differ.{differ, entry}
 use Rattle.certificate.proofs.EndLine.{Small, end-read}
 use Rattle.certificate.proofs.Worlds.{one, one-formed, one-good, write, deliver, step-of}
@@ -180,12 +180,6 @@ totals mask ks =
     sym (printed-is mask ks)
     ∙ ap (λ (sent : ℕ). withTotals mask ks sent (sum deliveredBy os) (sum droppedBy os) (waitingIn (lastWorld (start mask) ks .places))) (sent-is-sum mask ks)
 
-waiting-few : (ps : List Place) → waitingIn ps ≤ length ps
-unfolding waitingIn
-waiting-few [] = omega arith
-waiting-few (free ∷ ps) = omega (arith, waiting-few ps)
-waiting-few (state.waiting m ∷ ps) = omega (arith, waiting-few ps)
-
 after-all : (a b c : List ℕ) → a ++ b ≡ a ++ c → b ≡ c
 after-all a b c e = sym (drop-append-seam a b) ∙ ap (drop (length a)) e ∙ drop-append-seam a c
 
@@ -206,7 +200,7 @@ module _ (mask : ℕ) (ks : List Step) (some : 0 < mask) (byte : mask < 256) (fe
   counted-small =
       let d = few-delivered (start mask) ks in
       let x = few-dropped (start mask) ks in
-      let w : waits ≤ 256 = omega (arith, waiting-few (lastWorld (start mask) ks .places), good-facts (lastWorld (start mask) ks) (always-good mask some byte ks) .many) in
+      let w : waits ≤ 256 = omega (arith, places-all (lastWorld (start mask) ks .places), good-facts (lastWorld (start mask) ks) (always-good mask some byte ks) .many) in
       record { first = omega (arith, sent-is-sum mask ks, d, x, w); second = omega (arith, d); third = omega (arith, x); fourth = omega (arith, w) }
 
   -- a record of these steps that is the promised one has the counted totals, whatever bytes stand after it

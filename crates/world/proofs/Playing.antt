@@ -147,7 +147,7 @@ module _ {W : World} {ks : List Step} {l : List ℕ} {o : ℕ} {w out : List ℕ
 
 -- ---- the end
 
-places-all : (ps : List Place) → freeIn ps + waitingIn ps ≡ length ps
+pub places-all : (ps : List Place) → freeIn ps + waitingIn ps ≡ length ps
 unfolding freeIn waitingIn
 places-all [] = refl
 places-all (free ∷ ps) = omega (arith, places-all ps)
