@@ -1,4 +1,4 @@
--- The transfers that stay when a view is entered, read into eight rows; and a message's row. Assumes nothing.
+-- The transfers that stay when a view is entered, read into eight rows. Assumes nothing.
 use mathlib.Core.Path.{_≡_, refl, sym, ap, _∙_}
 use mathlib.Core.Bool.{true, false}
 use mathlib.Core.List.{List, [], _∷_, _++_, map}
@@ -9,19 +9,14 @@ use lib.ListN.{length, getD, set, replicate, length-set, length-append, List·ge
 use lib.Seq.{getD-set-same, getD-set-other}
 use Rattle.views.specs.Row.{viewsOf}
 use Rattle.rules.specs.Sets.{those, inside}
-use Rattle.rules.specs.State.{waiting}
 use Rattle.rules.specs.State as state
 use Rattle.rules.specs.Relays.{freshTransfer}
-use Rattle.rules.specs.Image.{bodyRow, rowBytes, placeBytes, transferAt}
+use Rattle.rules.specs.Image.{transferAt}
 use Rattle.rules.proofs.ImageFits.{replicate-at}
 use Rattle.rows.proofs.Change.{changed-add}
 use Rattle.state.specs.declared.Transfer.{Transfer}
-use Rattle.state.specs.declared.Body.{Body}
-use Rattle.state.specs.Meaning.{transferOf, bodyOf}
-use Rattle.messages.specs.Made.{fieldsOf}
-use Rattle.image.specs.Parts.{messageRow}
-use Rattle.good.proofs.Messages.{plain-place}
-use Rattle.world.specs.Commits.{keptRows, message}
+use Rattle.state.specs.Meaning.{transferOf}
+use Rattle.world.specs.Commits.{keptRows}
 use Rattle.world.proofs.Lists.{those-more, those-same}
 
 -- ---- i rows are read, n are kept, and they stand first in xs
@@ -95,10 +90,3 @@ pub kept-at : (ts : List Transfer) (k : ℕ)
 unfolding transferOf viewsOf freshTransfer
 kept-at ts k =
     sym (List·getD-map transferOf ts k (record { old = 0; new = 0; sequence = record { views = []; len = 0 }; senders = 0; best = record { stamp = record { count = 0; desk = 0 }; value = 0 }; gathered = 0 }))
-
--- ---- a message made plain is written as its place
-
-pub message-bytes : (from to : ℕ) (b plain : Body) → fieldsOf plain ≡ bodyRow 0 0 (bodyOf b)
-    → rowBytes (messageRow (record { from = from; to = to; body = plain })) ≡ placeBytes (waiting (message from (bodyOf b) to))
-unfolding message
-message-bytes = plain-place

@@ -4,9 +4,9 @@ use lib.ListN.{length}
 use borrow.Author.Needs.{needs}
 use Rattle.rows.proofs.Laws.{placed-length}
 use Rattle.state.specs.Meaning.{bodyOf}
+use Rattle.good.proofs.Messages.{plain-place}
 use Rattle.world.specs.Commits.{message}
 use Rattle.world.proofs.Places.{put-lowest, put-nowhere}
-use Rattle.world.proofs.Kept.{message-bytes}
 use Rattle.world.proofs.writes.place.Statement.{statement}
 use Rattle.world.proofs.writes.place.Tie as tie
 
@@ -16,12 +16,13 @@ returns c W long e =
     e ∙ rw (put-nowhere W long (message (a .from) (bodyOf (a .body)) (a .to)) _ (rw e at (c .before .first-free .ensures)) (c .if1 .taken))
 
 returns-2 : tie.Need-returns-2
+unfolding message
 returns-2 c W long e =
     let plain = c .before .before .before .before in
     let t = plain .before in
     let a = t .before .before .before .before .args in
     c .before .before .put-message .ensures
-    ∙ rw (message-bytes (a .from) (a .to) (a .body) _ (plain .plain .ensures), e)
+    ∙ rw (plain-place (a .from) (a .to) (a .body) _ (plain .plain .ensures), e)
     (put-lowest W long (message (a .from) (bodyOf (a .body)) (a .to)) _ (rw e at (t .before .first-free .ensures)) (t .if1 .left))
 
 pub place-spec : {M : Type 1} → statement M
