@@ -23,7 +23,7 @@ use Rattle.locality.proofs.Table.{byView, byMove, freed-move, find-part
 -- ---- by the two values of a test on both sides
 
 module _ {A B : Type 0} (R : A → B → Type 0) where
-  pub both : (b : Bool) {x y : A} {x′ y′ : B} → (b ≡ true → R x x′) → (b ≡ false → R y y′) → R (if b then x else y) (if b then x′ else y′)
+  both : (b : Bool) {x y : A} {x′ y′ : B} → (b ≡ true → R x x′) → (b ≡ false → R y y′) → R (if b then x else y) (if b then x′ else y′)
   both true f g = f refl
   both false f g = g refl
 
@@ -61,7 +61,7 @@ module _ (r : Relay) (v : ℕ) (m : Move) where
   unfolding widened
   head-wide h e = rw (part-back byView v (r .generators), eq-eqb (h .view) (r .view) e, part-back byMove m (r .transfers))
 
-  pub same-wide : r ≡ widened r (narrow r v m)
+  same-wide : r ≡ widened r (narrow r v m)
   unfolding narrow
   same-wide = head-wide r refl
 
@@ -102,7 +102,7 @@ module _ (r : Relay) (v : ℕ) (m : Move) where
 
   -- ---- Request, View, Get, Put
 
-  pub request-wide : (from u c : ℕ) → Wide r (requestHeard r from u c) (requestHeard (narrow r v m) from u c)
+  request-wide : (from u c : ℕ) → Wide r (requestHeard r from u c) (requestHeard (narrow r v m) from u c)
   unfolding requestHeard narrow withPending
   request-wide from u c =
       both (Wide r) (not (r .entered)) (λ _. does-wide r _ _ _ _ same-wide)
@@ -110,17 +110,17 @@ module _ (r : Relay) (v : ℕ) (m : Move) where
       (λ _. does-wide r _ _ _ _ (both (λ a b. a ≡ widened r b) (within u (r .view)) (λ _. same-wide) (λ _. head-wide (withPending r (joined (r .pending) u)) refl)))
       (λ _. does-wide r _ _ _ _ same-wide))
 
-  pub view-wide : (u : ℕ) → learns r u ≡ widened r (learns (narrow r v m) u)
+  view-wide : (u : ℕ) → learns r u ≡ widened r (learns (narrow r v m) u)
   unfolding learns narrow withKnown
   view-wide u = both (λ a b. a ≡ widened r b) (inside (r .known) u) (λ _. head-wide (withKnown r u) refl) (λ _. same-wide)
 
-  pub get-wide : (from try c : ℕ) → Wide r (getHeard r from try c) (getHeard (narrow r v m) from try c)
+  get-wide : (from try c : ℕ) → Wide r (getHeard r from try c) (getHeard (narrow r v m) from try c)
   unfolding getHeard narrow
   get-wide from try c =
       both (Wide r) (not (serves r c)) (λ _. refuses-wide r _)
       (λ _. both (Wide r) (inside c (r .view)) (λ _. does-wide r _ _ _ _ same-wide) (λ _. does-wide r _ _ _ _ same-wide))
 
-  pub put-wide : (from try c : ℕ) (p : Pair) → Wide r (putHeard r from try c p) (putHeard (narrow r v m) from try c p)
+  put-wide : (from try c : ℕ) (p : Pair) → Wide r (putHeard r from try c p) (putHeard (narrow r v m) from try c p)
   unfolding putHeard narrow withHolds
   put-wide from try c p =
       both (Wide r) (not (serves r c)) (λ _. refuses-wide r _)

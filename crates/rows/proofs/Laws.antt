@@ -17,16 +17,16 @@ use Rattle.rows.specs.Bytes.{splice, placed, run, tab}
 
 -- ---- splice
 
-pub splice-length : (l b : List ℕ) (o : ℕ) → o + length b ≤ length l → length (splice l o b) ≡ length l
+splice-length : (l b : List ℕ) (o : ℕ) → o + length b ≤ length l → length (splice l o b) ≡ length l
 unfolding splice
 splice-length l b o h = simp (length-append, length-take, length-drop) (omega arith)
 
-pub splice-at : (p q b : List ℕ) (o : ℕ) → length p ≡ o → splice (p ++ q) o b ≡ p ++ (b ++ drop (length b) q)
+splice-at : (p q b : List ℕ) (o : ℕ) → length p ≡ o → splice (p ++ q) o b ≡ p ++ (b ++ drop (length b) q)
 unfolding splice
 splice-at p q b o e = rw (← e, take-at p q (length p) refl, drop-append-add)
 
 -- a piece, and then one right after it
-pub splice-more : (l a b : List ℕ) (o : ℕ) → o ≤ length l → splice (splice l o a) (o + length a) b ≡ splice l o (a ++ b)
+splice-more : (l a b : List ℕ) (o : ℕ) → o ≤ length l → splice (splice l o a) (o + length a) b ≡ splice l o (a ++ b)
 unfolding splice
 splice-more l a b o h =
     rw (← append-assoc (take o l) a (drop (o + length a) l))
@@ -54,7 +54,7 @@ pub splice-right : (a b v : List ℕ) (n o : ℕ) → length a ≡ n → splice 
 unfolding splice
 splice-right a b v n o e = rw (← e) (simp (take-append-add, add-assoc, drop-append-add, append-assoc))
 
-pub splice-nil : (l : List ℕ) (o : ℕ) → splice l o [] ≡ l
+splice-nil : (l : List ℕ) (o : ℕ) → splice l o [] ≡ l
 unfolding splice
 splice-nil l o = rw add-zero (take-append-drop o l)
 
@@ -83,7 +83,7 @@ pub placed-nil : (l : List ℕ) (o : ℕ) → placed l o [] ≡ l
 placed-nil l o = by-room (λ t. t ≡ l) l [] o (λ h. splice-nil l o) (λ h. refl)
 
 -- two pieces that have room
-pub placed-twice : (l a b : List ℕ) (o p : ℕ) → o + length a ≤ length l → p + length b ≤ length l → placed (placed l o a) p b ≡ splice (splice l o a) p b
+placed-twice : (l a b : List ℕ) (o p : ℕ) → o + length a ≤ length l → p + length b ≤ length l → placed (placed l o a) p b ≡ splice (splice l o a) p b
 placed-twice l a b o p h k = rw (placed-fits l a o h) (placed-fits (splice l o a) b p (rw (splice-length l a o h) k))
 
 -- they are one where they stand side by side, whichever is written first

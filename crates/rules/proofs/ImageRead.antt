@@ -18,10 +18,10 @@ use Rattle.rules.proofs.ImageWorld.{WorldFits, holds-relays, holds-desk
 -- ---- in a relay's region, wherever it stands
 
 module _ (l : List ℕ) (o : ℕ) (r : Relay) (h : Holds l o (relayBytes r)) (i : ℕ) (hi : i < 8) where
-  pub holds-generator : Holds l (o + 64 + i * 592) (generatorBytes (getD (r .generators) i (fresh 0)))
+  holds-generator : Holds l (o + 64 + i * 592) (generatorBytes (getD (r .generators) i (fresh 0)))
   holds-generator = table-holds generatorBytes (fresh 0) 592 8 length-generator l (o + 64) i (r .generators) hi (holds-generators l o r h)
 
-  pub holds-transfer : Holds l (o + 4800 + i * 80) (transferBytes (getD (r .transfers) i (freshTransfer 0 0)))
+  holds-transfer : Holds l (o + 4800 + i * 80) (transferBytes (getD (r .transfers) i (freshTransfer 0 0)))
   holds-transfer = table-holds transferBytes (freshTransfer 0 0) 80 8 length-transfer l (o + 4800) i (r .transfers) hi (holds-transfers l o r h)
 
 -- ---- in the image
@@ -37,10 +37,10 @@ module _ (w : World) (s : ℕ) (hs : s < 8) where
   pub holds-relay : Holds (image w) (s * 5440) (relayBytes (state.relayAt w s))
   holds-relay = rw zero-add at (table-holds relayBytes noRelay 5440 8 length-relay (image w) 0 s (w .relays) hs (holds-relays w))
 
-  pub image-generator : (i : ℕ) → i < 8 → Holds (image w) (s * 5440 + 64 + i * 592) (generatorBytes (getD (state.relayAt w s .generators) i (fresh 0)))
+  image-generator : (i : ℕ) → i < 8 → Holds (image w) (s * 5440 + 64 + i * 592) (generatorBytes (getD (state.relayAt w s .generators) i (fresh 0)))
   image-generator = holds-generator (image w) (s * 5440) (state.relayAt w s) holds-relay
 
-  pub image-transfer : (i : ℕ) → i < 8 → Holds (image w) (s * 5440 + 4800 + i * 80) (transferBytes (getD (state.relayAt w s .transfers) i (freshTransfer 0 0)))
+  image-transfer : (i : ℕ) → i < 8 → Holds (image w) (s * 5440 + 4800 + i * 80) (transferBytes (getD (state.relayAt w s .transfers) i (freshTransfer 0 0)))
   image-transfer = holds-transfer (image w) (s * 5440) (state.relayAt w s) holds-relay
 
 -- ---- and so what is read there, of a world that fits

@@ -36,7 +36,7 @@ module _ (r : Relay) where
   put-head q = write-head q 0 (headBytes q) (omega (arith, length-head q)) (over headBytes length-head r q)
 
   -- a generator's place
-  pub write-generator : (gs : List Generator) (i o : ℕ) (v : List ℕ) (g : Generator) → Changed (fresh 0) (r .generators) i g gs → i < 8 → o + length v ≤ 592
+  write-generator : (gs : List Generator) (i o : ℕ) (v : List ℕ) (g : Generator) → Changed (fresh 0) (r .generators) i g gs → i < 8 → o + length v ≤ 592
       → splice (generatorBytes (getD (r .generators) i (fresh 0))) o v ≡ generatorBytes g
       → splice (relayBytes r) (64 + (i * 592 + o)) v ≡ relayBytes (withGenerators r gs)
   unfolding relayBytes headBytes withGenerators
@@ -51,7 +51,7 @@ module _ (r : Relay) where
       (write-generator gs i 0 (generatorBytes g) g c hi (omega (arith, length-generator g)) (over generatorBytes length-generator (getD (r .generators) i (fresh 0)) g))
 
   -- a transfer's place
-  pub write-transfer : (ts : List Transfer) (i o : ℕ) (v : List ℕ) (t : Transfer) → Changed (freshTransfer 0 0) (r .transfers) i t ts → i < 8 → o + length v ≤ 80
+  write-transfer : (ts : List Transfer) (i o : ℕ) (v : List ℕ) (t : Transfer) → Changed (freshTransfer 0 0) (r .transfers) i t ts → i < 8 → o + length v ≤ 80
       → splice (transferBytes (getD (r .transfers) i (freshTransfer 0 0))) o v ≡ transferBytes t
       → splice (relayBytes r) (4800 + (i * 80 + o)) v ≡ relayBytes (withTransfers r ts)
   unfolding relayBytes headBytes withTransfers
@@ -77,7 +77,7 @@ module _ (r : Relay) where
 -- ---- inside the image: v at o inside a row, and the whole row
 
 module _ (w : World) where
-  pub write-place : (ps : List Place) (p o : ℕ) (v : List ℕ) (x : Place) → Changed free (w .places) p x ps → p < 256 → o + length v ≤ 80
+  write-place : (ps : List Place) (p o : ℕ) (v : List ℕ) (x : Place) → Changed free (w .places) p x ps → p < 256 → o + length v ≤ 80
       → splice (placeBytes (placeAt w p)) o v ≡ placeBytes x → splice (image w) (43776 + (p * 80 + o)) v ≡ image (withPlaces w ps)
   unfolding image
   write-place ps p o v x c hp ho e =

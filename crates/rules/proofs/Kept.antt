@@ -40,7 +40,7 @@ good-facts w e =
     let h = hold-facts _ e in
     record { eight = eqb-true _ _ (h .0); relays = h .1 .0; four = eqb-true _ _ (h .1 .1 .0); desks = h .1 .1 .1 .0; many = eqb-true _ _ (h .1 .1 .1 .1 .0); places = h .1 .1 .1 .1 .1 .0 }
 
-pub good-tests : (w : World) → Good w → wellFormed w ≡ true
+good-tests : (w : World) → Good w → wellFormed w ≡ true
 unfolding wellFormed
 good-tests w h = hold-tests _ (eq-eqb _ _ (h .eight), (h .relays, (eq-eqb _ _ (h .four), (h .desks, (eq-eqb _ _ (h .many), (h .places, tt))))))
 

@@ -68,7 +68,7 @@ module _ (s : ℕ) (r : Relay) (h : Rel s r) (small : s < 8) where
       let same : n ≡ from = only-one from n b in
       hold-tests _ (lt-ltb s 8 small, (lt-ltb n 8 (omega arith), (lt-ltb (r .view) 65536 (h .view), (rw e at (h .entered), tt))))
 
-  pub request-kept : (from u c : ℕ) → from < 8 → u < 65536 → GoodAnswer s (requestHeard r from u c)
+  request-kept : (from u c : ℕ) → from < 8 → u < 65536 → GoodAnswer s (requestHeard r from u c)
   unfolding requestHeard withPending
   request-kept from u c f l =
       cases (GoodAnswer s) (not (r .entered)) (λ e. does-well s r [] nothing h (sends-none s))
@@ -79,7 +79,7 @@ module _ (s : ℕ) (r : Relay) (h : Rel s r) (small : s < 8) where
       (sends-none s))
       (λ k. does-well s r _ nothing h (sends-one s _ (view-well from f (not-false (r .entered) e)))))
 
-  pub learns-good : (v : ℕ) → v < 65536 → Rel s (learns r v)
+  learns-good : (v : ℕ) → v < 65536 → Rel s (learns r v)
   unfolding learns withKnown
   learns-good v l =
       cases (Rel s) (inside (r .known) v)
@@ -104,13 +104,13 @@ module _ (s : ℕ) (r : Relay) (h : Rel s r) (small : s < 8) where
     unfolding goodBody
     ack-reply n k b = hold-tests _ (lt-ltb try 65536 l, (to-desk n b, tt))
 
-    pub get-kept : (c : ℕ) → GoodAnswer s (getHeard r from try c)
+    get-kept : (c : ℕ) → GoodAnswer s (getHeard r from try c)
     unfolding getHeard
     get-kept c =
         cases (GoodAnswer s) (not (serves r c)) (λ e. refuses-well s _)
         (λ e. cases (GoodAnswer s) (inside c (r .view)) (λ k. does-well s r _ nothing h (sends-one s _ view-reply)) (λ k. does-well s r _ nothing h (sends-one s _ pair-reply)))
 
-    pub put-kept : (c : ℕ) (p : Pair) → isPair p ≡ true → GoodAnswer s (putHeard r from try c p)
+    put-kept : (c : ℕ) (p : Pair) → isPair p ≡ true → GoodAnswer s (putHeard r from try c p)
     unfolding putHeard withHolds
     put-kept c p i =
         cases (GoodAnswer s) (not (serves r c)) (λ e. refuses-well s _)

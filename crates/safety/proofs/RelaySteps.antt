@@ -73,11 +73,11 @@ module _ {start : ℕ} {l : Log} {k : ℕ} {r : Relay} (h : RelayTied start l k 
     transfers = a;
   }
 
-  pub tied-known : (v : ℕ) → RelayTied start l k (withKnown r v)
+  tied-known : (v : ℕ) → RelayTied start l k (withKnown r v)
   unfolding withKnown
   tied-known v = tied-as (r .alive) v (r .pending) (r .transfers) (h .updates) (h .transfers)
 
-  pub tied-pending : (u : ℕ) → u < 65536 → RelayTied start l k (withPending r u)
+  tied-pending : (u : ℕ) → u < 65536 → RelayTied start l k (withPending r u)
   unfolding withPending
   tied-pending u s = tied-as (r .alive) (r .known) u (r .transfers) s (h .transfers)
 

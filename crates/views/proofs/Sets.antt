@@ -21,10 +21,10 @@ use Rattle.views.proofs.Digits.{digit, digit-and, digit-or, and-half, a
 pub record Within (a b : ℕ) : Type 0 where
   pub meets : bitAnd a b ≡ a
 
-pub within-digit : {a b : ℕ} → Within a b → (i : ℕ) → digit i a ≤ digit i b
+within-digit : {a b : ℕ} → Within a b → (i : ℕ) → digit i a ≤ digit i b
 within-digit {a} {b} h i = omega (arith, digit-and i a b, ap (digit i) (h .meets))
 
-pub digit-within : {a b : ℕ} → ((i : ℕ) → digit i a ≤ digit i b) → Within a b
+digit-within : {a b : ℕ} → ((i : ℕ) → digit i a ≤ digit i b) → Within a b
 digit-within {a} {b} h = record { meets = ext (bitAnd a b) a (λ i. omega (arith, digit-and i a b, h i)) }
 
 pub within-refl : (a : ℕ) → Within a a
@@ -70,7 +70,7 @@ ones-or-and =
       simp (and-half, and-low) at (ones-step (bitAnd n b)),
     ))
 
-pub ones-none : (a : ℕ) → ones a ≡ 0 → a ≡ 0
+ones-none : (a : ℕ) → ones a ≡ 0 → a ≡ 0
 ones-none = bin-ind (λ (n : ℕ). ones n ≡ 0 → n ≡ 0) (λ e. refl) (λ n ih e. omega (arith, ih (omega (arith, ones-step n)), ones-step n))
 
 -- a set inside another is that set, or has fewer members
@@ -140,7 +140,7 @@ inside-or a b h = record { within = within-or-left a b; other = λ e. h (rw (←
 
 -- ---- the tests of inclusion
 
-pub bit-within : (a b : ℕ) → ((s : ℕ) → bitOf a s ≡ true → bitOf b s ≡ true) → Within a b
+bit-within : (a b : ℕ) → ((s : ℕ) → bitOf a s ≡ true → bitOf b s ≡ true) → Within a b
 bit-within a b h =
     digit-within (λ i. ⊎-elim (λ e. omega (arith, bit-fact a i e, bit-fact b i (h i e))) (λ e. omega (arith, clear-fact a i e)) (decided (bitOf a i)))
 
