@@ -17,7 +17,7 @@ ghost use Rattle.state.specs.Meaning.{bodyOf, eventOf};
 ghost use Rattle.state.specs.Plans.{planned, deskPlanOf};
 ghost use Rattle.desk.specs.Replies.{replyNoted};
 
-// A refusal "changes nothing": all but its number is blank.
+// Refusals "change nothing": all but the number is blank.
 fn refuses(answer: u8) -> DeskPlan
     ensures { λ r. ⌜ ((x : Refusal) → answer ≡ number x → deskPlanOf r ≡ planned noDesk (refused x)) ⌝ }
 {

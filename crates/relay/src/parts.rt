@@ -14,7 +14,7 @@ use state::Part;
 use state::Plan;
 use state::Sending;
 
-// A refusal "changes nothing": all but its number is blank.
+// Refusals "change nothing": all but the number is blank.
 pub(crate) fn refuses(answer: u8) -> Plan
     ensures { λ r. ⌜ ((x : rules.Refusal) → answer ≡ rules.number x → planOf r ≡ planned noRelay (rules.refused x)) ⌝ }
 {

@@ -10,7 +10,7 @@ use Rattle.rules.specs.State.{Relay, noRelay, noDesk, free, World}
 use Rattle.rules.specs.State as state
 use Rattle.rules.specs.Generators.{fresh}
 use Rattle.rules.specs.Relays.{freshTransfer}
-use Rattle.rules.specs.Image.{generatorBytes, transferBytes, relayBytes, deskBytes, placeBytes, image, generatorAt, transferAt, relayAt, deskAt}
+use Rattle.rules.specs.Image.{generatorBytes, transferBytes, relayBytes, deskBytes, placeBytes, image, generatorAt, transferAt}
 use Rattle.rules.proofs.ImageWidths.{length-generator, length-transfer, length-relay, length-desk, length-place}
 use Rattle.rules.proofs.ImageRows.{generator-back, transfer-back, holds-generators, holds-transfers}
 use Rattle.rules.proofs.ImageWorld.{WorldFits, holds-relays, holds-desks, holds-places}

@@ -2,7 +2,7 @@
 ghost use mathlib.Core.Path.{_≡_};
 ghost use Rattle.rules.specs.Desks.{cleared, begun, ended};
 
-// Document 01's table of answers numbers them.
+// The refusals, as document 01's table of answers numbers them.
 pub const BAD_WORLD: u8 = 1;
 
 pub const BAD_STEP: u8 = 2;
@@ -37,7 +37,7 @@ pub enum Phase {
     Write2,
 }
 
-// "Desk: alive, view, phase, try 0..65,535, value, stamp, who replied, best reply, whether all stamps agreed."
+// "Desk: alive, view, phase [..], try 0..65,535, value, stamp, who replied, best reply, whether all stamps agreed."
 // `tries` is the try, `holds` its stamp and value.
 pub struct Desk {
     pub alive: bool,

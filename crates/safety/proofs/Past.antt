@@ -2,7 +2,7 @@
 -- log `l` before it, with `Past t (e ∷ l)`.
 -- Assumes nothing.
 use mathlib.Core.Path.{_≡_, refl, sym, subst}
-use mathlib.Core.List.{[], _∷_, List·Memᴰ·head, List·Memᴰ·tail}
+use mathlib.Core.List.{_∷_, List·Memᴰ·head, List·Memᴰ·tail}
 use Rattle.safety.proofs.Log.{Entry, Log, _∋_, Justified, Sound, sound-cons}
 use Prim.Native.Nat.{ℕ}
 

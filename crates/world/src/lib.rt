@@ -326,7 +326,7 @@ fn step_good(w: &mut [u8], k: Step) -> Answer
     desk_acts(w, kind, who - 8, k.value)
 }
 
-// Any step on any buffer. "BAD WORLD: world not good"
+// Any step on any buffer. BAD WORLD: "world not good".
 pub fn step(w: &mut [u8], k: Step) -> Answer
     ensures { λ r. ⌜ lentOf r (now (w .exit)) ≡ lent.lentStep (now (w .entry)) k ⌝ }
 {

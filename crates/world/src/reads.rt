@@ -67,7 +67,7 @@ fn delivered(p: usize) -> usize
     0
 }
 
-// "NO ROOM: the step needs more messages [..] than are free at its begin, its own delivered place counted as free"
+// NO ROOM: "the step needs more messages [..] than are free at its begin, its own delivered place counted as free"
 pub(crate) fn has_room(w: &[u8], p: usize, first: u16, second: u16) -> bool
     ensures { λ r. ⌜ r ≡ leb (length (receiversBelow first 12) + length (receiversBelow second 12)) (freeRows (now (w .entry)) 256 + (if ltb p 256 then 1 else 0)) ⌝ }
 {
@@ -212,7 +212,7 @@ fn transfer_seated(w: &[u8], s: u8, part: Part) -> bool
     transfer_seat(w, at + 4800, part.transfer.old, part.transfer.new) < 8
 }
 
-// "NO ROOM: the step needs more [..] generators or transfers than are free at its begin"
+// NO ROOM: "the step needs more [..] generators or transfers than are free at its begin"
 pub(crate) fn has_seats(w: &[u8], s: u8, part: Part) -> bool
     requires { ⌜ (goodBytes (now w) ≡ true) × (s < 8) ⌝ }
     ensures { λ r. ⌜ r ≡ (leb (length (widened (relayAt (worldAt (now (w .entry))) s) (partOf part) .generators)) 8 && leb (length (widened (relayAt (worldAt (now (w .entry))) s) (partOf part) .transfers)) 8) ⌝ }
