@@ -41,9 +41,9 @@ use Rattle.state.specs.declared.Head.{Head}
 use Rattle.state.specs.declared.Part.{Part}
 use Rattle.state.specs.declared.Body.{Body}
 use Rattle.state.specs.declared.Message.{Message}
-use Rattle.state.specs.Meaning.{notesOf, generatorOf, transferOf, relayOf, partOf, bodyOf, sendingOf}
+use Rattle.state.specs.Meaning.{rowOfBody, notesOf, generatorOf, transferOf, relayOf, partOf, bodyOf, sendingOf}
 use Rattle.state.specs.Plans.{noSending, turnOf, turned, planOf, deskPlanOf, planned}
-use Rattle.messages.specs.Made.{fieldsOf, toOneOf}
+use Rattle.messages.specs.Made.{toOneOf}
 use Rattle.generator.specs.Heard.{heardInRow}
 use Rattle.relay.specs.Fitting.{joinAnswer, timerAnswer, hearsAnswer}
 use Rattle.desk.specs.Replies.{replyNoted}
@@ -244,8 +244,8 @@ messages-pair-reply tries p = by-meaning bodyOf (rules.pairReply tries p)
 pub messages-ack : (tries : ℕ) → DeterminedBy bodyOf (λ r. bodyOf r ≡ rules.ack tries)
 messages-ack tries = by-meaning bodyOf (rules.ack tries)
 
-pub messages-plain : (b : Body) → DeterminedBy fieldsOf (λ r. fieldsOf r ≡ bodyRow 0 0 (bodyOf b))
-messages-plain b = by-meaning fieldsOf (bodyRow 0 0 (bodyOf b))
+pub messages-plain : (b : Body) → DeterminedBy rowOfBody (λ r. rowOfBody r ≡ bodyRow 0 0 (bodyOf b))
+messages-plain b = by-meaning rowOfBody (bodyRow 0 0 (bodyOf b))
 
 pub messages-no-sending : DeterminedBy sendingOf (λ r. sendingOf r ≡ noSending)
 messages-no-sending = by-meaning sendingOf noSending
@@ -267,8 +267,8 @@ generator-fresh v = by-meaning generatorOf (generators.fresh v)
 pub generator-noted : (n : Notes) (from : ℕ) (q : Sequence) → DeterminedBy notesOf (λ r. notesOf r ≡ set (notesOf n) from (viewsOf q))
 generator-noted n from q = by-meaning notesOf (set (notesOf n) from (viewsOf q))
 
-pub generator-agreeing : (n : Notes) (q : Sequence) → Determined (λ r. r ≡ generators.noted (notesOf n) (viewsOf q))
-generator-agreeing n q = by-equation (generators.noted (notesOf n) (viewsOf q))
+pub generator-agreeing : (n : Notes) (q : Sequence) → Determined (λ r. r ≡ generators.agreeing (notesOf n) (viewsOf q))
+generator-agreeing n q = by-equation (generators.agreeing (notesOf n) (viewsOf q))
 
 pub generator-agree : (v : ℕ) (n : Notes) (q : Sequence) → Determined (λ r. r ≡ generators.agree v (notesOf n) (viewsOf q))
 generator-agree v n q = by-equation (generators.agree v (notesOf n) (viewsOf q))

@@ -20,7 +20,7 @@ use Rattle.state.specs.declared.Transfer.{Transfer}
 use Rattle.state.specs.declared.Head.{Head}
 use Rattle.state.specs.declared.Message.{Message}
 use Rattle.state.specs.Meaning.{notesOf, generatorOf, transferOf, relayOf}
-use Rattle.image.specs.Parts.{notesBytes, notesAt, headAt, addressedRow, messageRow}
+use Rattle.image.specs.Parts.{notesBytes, notesAt, headAt, messageRow}
 use Rattle.certificate.proofs.Differ.{differ, truth, entry}
 
 -- ---- image; {3} and {3, 7} as they stand in a buffer, and how many views a sequence has
@@ -201,9 +201,9 @@ unfolding numberAt tab sequenceAt pairAt rowAt
 image-message-at-sender-for-receiver p = differ (λ (m : Row). m .to) (p (2 ∷ 0 ∷ 1 ∷ 0 ∷ 3 ∷ []) 0) tt
 
 pub image-put-message-nowhere : ¬ ((s : List ℕ) (at : ℕ) (m : Message) → s ≡ placed s at (rowBytes (messageRow m)))
-unfolding viewsOf rowOf placed splice bytesOf run zeros cat sequenceBytes pairBytes rowBytes addressedRow messageRow
+unfolding viewsOf rowOf placed splice bytesOf run zeros cat sequenceBytes pairBytes rowBytes messageRow
 image-put-message-nowhere p = differ (entry 0) (p (zeros 80) 0 message) tt
 
 pub image-put-message-sender-for-receiver : ¬ ((s : List ℕ) (at : ℕ) (m : Message) → placed s at (rowBytes (returned (messageRow m))) ≡ placed s at (rowBytes (messageRow m)))
-unfolding viewsOf rowOf placed splice bytesOf run zeros cat sequenceBytes pairBytes rowBytes addressedRow messageRow
+unfolding viewsOf rowOf placed splice bytesOf run zeros cat sequenceBytes pairBytes rowBytes messageRow
 image-put-message-sender-for-receiver p = differ (entry 1) (p (zeros 80) 0 message) tt

@@ -31,9 +31,9 @@ use Rattle.state.specs.declared.Notes.{Notes}
 use Rattle.state.specs.declared.Generator.{Generator}
 use Rattle.state.specs.declared.Part.{Part}
 use Rattle.state.specs.declared.Body.{Body}
-use Rattle.state.specs.Meaning.{notesOf, generatorOf, relayOf, partOf, bodyOf}
+use Rattle.state.specs.Meaning.{rowOfBody, notesOf, generatorOf, relayOf, partOf, bodyOf}
 use Rattle.state.specs.Plans.{noSending, Turned, turned, Planned, planned}
-use Rattle.messages.specs.Made.{blankOf, fieldsOf, toOneOf}
+use Rattle.messages.specs.Made.{blankOf, toOneOf}
 use Rattle.generator.specs.Heard.{mergedInRow, hearsInRow, heardInRow}
 use Rattle.relay.specs.Fitting.{fitting, joinAnswer, timerAnswer, hearsAnswer}
 use Rattle.relay.specs.Fitting as fit
@@ -140,12 +140,12 @@ messages-ack-as-a-pair p = differ kind (p 5) tt
 abbrev unclean : Body
 unclean = record { kind = 2; first = 1; second = 0; tries = 0; sequence = rowOf []; pair = freshPair; updates = 9 }
 
-pub messages-plain-as-it-is : ¬ ((b : Body) → fieldsOf b ≡ bodyRow 0 0 (bodyOf b))
-unfolding fieldsOf bodyOf bodyIn viewsOf rowOf
+pub messages-plain-as-it-is : ¬ ((b : Body) → rowOfBody b ≡ bodyRow 0 0 (bodyOf b))
+unfolding bodyOf bodyIn viewsOf rowOf
 messages-plain-as-it-is p = differ (λ m. m .updates) (p unclean) tt
 
 pub messages-plain-emptied : ¬ ((b : Body) → bodyRow 0 0 (rules.ack 0) ≡ bodyRow 0 0 (bodyOf b))
-unfolding fieldsOf bodyOf bodyIn viewsOf rowOf
+unfolding bodyOf bodyIn viewsOf rowOf
 messages-plain-emptied p = differ (λ m. m .kind) (p unclean) tt
 
 abbrev receivers : rules.Sending → ℕ
@@ -207,20 +207,20 @@ pub generator-noted-not-at-all : ¬ ((n : Notes) (from : ℕ) (q : Sequence) →
 unfolding notesOf viewsOf rowOf
 generator-noted-not-at-all p = differ ofZero (p notes 0 (rowOf (3 ∷ []))) tt
 
-pub generator-agreeing-how-many : ¬ ((n : Notes) (q : Sequence) → ones (generators.noted (notesOf n) (viewsOf q)) ≡ generators.noted (notesOf n) (viewsOf q))
-unfolding notesOf viewsOf rowOf sameOf generators.noted ones onesIn
+pub generator-agreeing-how-many : ¬ ((n : Notes) (q : Sequence) → ones (generators.agreeing (notesOf n) (viewsOf q)) ≡ generators.agreeing (notesOf n) (viewsOf q))
+unfolding notesOf viewsOf rowOf sameOf generators.agreeing ones onesIn
 generator-agreeing-how-many p = differ itself (p noteOfOne (rowOf (3 ∷ []))) tt
 
-pub generator-agreeing-everybody : ¬ ((n : Notes) (q : Sequence) → 255 ≡ generators.noted (notesOf n) (viewsOf q))
-unfolding notesOf viewsOf rowOf sameOf generators.noted
+pub generator-agreeing-everybody : ¬ ((n : Notes) (q : Sequence) → 255 ≡ generators.agreeing (notesOf n) (viewsOf q))
+unfolding notesOf viewsOf rowOf sameOf generators.agreeing
 generator-agreeing-everybody p = differ itself (p noteOfOne (rowOf (3 ∷ []))) tt
 
-pub generator-agree-by-one : ¬ ((v : ℕ) (n : Notes) (q : Sequence) → not (eqb (generators.noted (notesOf n) (viewsOf q)) 0) ≡ generators.agree v (notesOf n) (viewsOf q))
-unfolding notesOf viewsOf rowOf sameOf generators.noted ones onesIn reachesOf
+pub generator-agree-by-one : ¬ ((v : ℕ) (n : Notes) (q : Sequence) → not (eqb (generators.agreeing (notesOf n) (viewsOf q)) 0) ≡ generators.agree v (notesOf n) (viewsOf q))
+unfolding notesOf viewsOf rowOf sameOf generators.agreeing ones onesIn reachesOf
 generator-agree-by-one p = differ truth (p 3 noteOfOne (rowOf (3 ∷ []))) tt
 
-pub generator-agree-by-others-too : ¬ ((v : ℕ) (n : Notes) (q : Sequence) → leb (quorumOf v) (ones (generators.noted (notesOf n) (viewsOf q))) ≡ generators.agree v (notesOf n) (viewsOf q))
-unfolding notesOf viewsOf rowOf sameOf generators.noted ones onesIn reachesOf
+pub generator-agree-by-others-too : ¬ ((v : ℕ) (n : Notes) (q : Sequence) → leb (quorumOf v) (ones (generators.agreeing (notesOf n) (viewsOf q))) ≡ generators.agree v (notesOf n) (viewsOf q))
+unfolding notesOf viewsOf rowOf sameOf generators.agreeing ones onesIn reachesOf
 generator-agree-by-others-too p = differ truth (p 1 noteOfOne (rowOf (3 ∷ []))) tt
 
 abbrev firstTo : Turned → ℕ
@@ -235,19 +235,19 @@ unfolding generatorOf notesOf viewsOf rowOf generators.proposes generators.withO
 generator-proposes-in-silence p = differ firstTo (p (generator 1 [] []) (rowOf (7 ∷ []))) tt
 
 pub generator-proposal-heard-without-settling : ¬ ((g : Generator) (from : ℕ) (q : Sequence) → turned (hearsInRow (generatorOf g) from (viewsOf q)) ≡ turned (heardInRow (generatorOf g) from (viewsOf q)))
-unfolding generatorOf notesOf viewsOf rowOf some insideOf clashOf plusOf unionOf heardOf sameOf ones onesIn reachesOf generators.withOwn generators.noted generators.hears generators.settles mergedInRow hearsInRow heardInRow turned
+unfolding generatorOf notesOf viewsOf rowOf some insideOf clashOf plusOf unionOf heardOf sameOf ones onesIn reachesOf generators.withOwn generators.agreeing generators.hears generators.settles mergedInRow hearsInRow heardInRow turned
 generator-proposal-heard-without-settling p = differ (λ (t : Turned). length (t .next .converged)) (p (generator 1 [] []) 0 (rowOf (3 ∷ []))) tt
 
 pub generator-proposal-heard-without-a-note : ¬ ((g : Generator) (from : ℕ) (q : Sequence) → turned (heardInRow (generatorOf g) 8 (viewsOf q)) ≡ turned (heardInRow (generatorOf g) from (viewsOf q)))
-unfolding generatorOf notesOf viewsOf rowOf some insideOf clashOf plusOf unionOf heardOf sameOf ones onesIn reachesOf generators.withOwn generators.noted generators.hears generators.settles mergedInRow hearsInRow heardInRow turned
+unfolding generatorOf notesOf viewsOf rowOf some insideOf clashOf plusOf unionOf heardOf sameOf ones onesIn reachesOf generators.withOwn generators.agreeing generators.hears generators.settles mergedInRow hearsInRow heardInRow turned
 generator-proposal-heard-without-a-note p = differ (λ (t : Turned). ofZero (t .next .proposals)) (p (generator 1 [] []) 0 (rowOf (3 ∷ []))) tt
 
 pub generator-converged-heard-without-raising : ¬ ((g : Generator) (from : ℕ) (q : Sequence) → turned (record { next = generators.notesConverged (generatorOf g) from (viewsOf q); sendings = [] }) ≡ turned (generators.convergedHeard (generatorOf g) from (viewsOf q)))
-unfolding generatorOf notesOf viewsOf rowOf sameOf ones onesIn reachesOf generators.noted generators.notesConverged generators.raises generators.convergedHeard turned
+unfolding generatorOf notesOf viewsOf rowOf sameOf ones onesIn reachesOf generators.agreeing generators.notesConverged generators.raises generators.convergedHeard turned
 generator-converged-heard-without-raising p = differ firstTo (p (generator 1 [] []) 0 (rowOf (3 ∷ []))) tt
 
 pub generator-converged-heard-raised-again : ¬ ((g : Generator) (from : ℕ) (q : Sequence) → turned (generators.convergedHeard (generators.raises (generatorOf g) []) from (viewsOf q)) ≡ turned (generators.convergedHeard (generatorOf g) from (viewsOf q)))
-unfolding generatorOf notesOf viewsOf rowOf sameOf ones onesIn reachesOf generators.noted generators.notesConverged generators.raises generators.convergedHeard turned
+unfolding generatorOf notesOf viewsOf rowOf sameOf ones onesIn reachesOf generators.agreeing generators.notesConverged generators.raises generators.convergedHeard turned
 generator-converged-heard-raised-again p = differ firstTo (p (generator 1 [] (3 ∷ [])) 0 (rowOf (3 ∷ []))) tt
 
 -- ---- relay

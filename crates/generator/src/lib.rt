@@ -43,7 +43,7 @@ pub fn noted(n: Notes, from: u8, q: Sequence) -> Notes
 
 // The set of those whose last note is q.
 pub fn agreeing(n: Notes, q: Sequence) -> u8
-    ensures { λ r. ⌜ r ≡ rules.noted (notesOf n) (viewsOf q) ⌝ }
+    ensures { λ r. ⌜ r ≡ rules.agreeing (notesOf n) (viewsOf q) ⌝ }
 {
     let mut mask: u8 = 0;
     let mut s: usize = 8;

@@ -16,9 +16,8 @@ use Rattle.rules.specs.Image.{bodyRow, placeBytes, rowBytes, rowAt, placeIn}
 use Rattle.rules.proofs.ImageZeros.{place-zeros}
 use Rattle.state.specs.declared.Body.{Body}
 use Rattle.state.specs.declared.Message.{Message}
-use Rattle.state.specs.Meaning.{bodyOf, messageOf}
-use Rattle.messages.specs.Made.{fieldsOf}
-use Rattle.image.specs.Parts.{addressedRow, messageRow}
+use Rattle.state.specs.Meaning.{rowOfBody, bodyOf, messageOf}
+use Rattle.image.specs.Parts.{messageRow}
 use Rattle.image.proofs.Parts.{place-of, plain-bytes, made-means, made-plain}
 use Rattle.good.specs.Rows.{held, sent, placeGood}
 use Rattle.good.proofs.Held.{zero-held}
@@ -40,17 +39,16 @@ module _ (l : List ℕ) (o : ℕ) where
 
   module _ (m : Message) (e : messageRow m ≡ rowAt l o) where
     pub kind-is : m .body .kind ≡ getD l o 0
-    unfolding messageRow addressedRow rowAt
+    unfolding messageRow rowAt
     kind-is = ap (λ r. r .kind) e
 
     pub place-waits : 1 ≤ m .body .kind → m .body .kind ≤ 11 → placeIn (rowAt l o) ≡ waiting (messageOf m)
     place-waits low high = ap placeIn (sym e) ∙ place-of m low high
 
 -- a message whose body is made plain has the bytes of its place
-pub plain-place : (from to : ℕ) (b plain : Body) → fieldsOf plain ≡ bodyRow 0 0 (bodyOf b)
+pub plain-place : (from to : ℕ) (b plain : Body) → rowOfBody plain ≡ bodyRow 0 0 (bodyOf b)
     → rowBytes (messageRow (record { from = from; to = to; body = plain })) ≡ placeBytes (sent from to (bodyOf b))
 unfolding messageOf
 plain-place from to b plain e =
     let m : Message = record { from = from; to = to; body = plain } in
-    let is : addressedRow 0 0 plain ≡ bodyRow 0 0 (bodyOf b) = unfold addressedRow fieldsOf in e in
-    plain-bytes m (made-plain plain (bodyOf b) is) ∙ rw (made-means plain (bodyOf b) is)
+    plain-bytes m (made-plain plain (bodyOf b) e) ∙ rw (made-means plain (bodyOf b) e)

@@ -119,7 +119,7 @@ pub(crate) fn good_desks(w: &[u8]) -> bool
     ensures { λ r. ⌜ r ≡ all 4 (λ n. deskGood (now (w .entry)) (43520 + n * 64)) ⌝ }
 {
     for n in 0..4usize {
-        if !good_desk_row(w, 43520 + n * 64) {
+        if !good_desk_row(w, image::DESKS + n * image::DESK) {
             return false;
         }
     }

@@ -14,7 +14,7 @@ mod transfers;
 pub fn is_good(w: &[u8]) -> bool
     ensures { λ r. ⌜ r ≡ goodBytes (now (w .entry)) ⌝ }
 {
-    if w.len() != 65536 {
+    if w.len() != image::SIZE {
         return false;
     }
     if !relays::good_relays(w) {

@@ -4,7 +4,7 @@ ghost use Prim.Native.Nat.{_+_, _≤_};
 ghost use lib.ListN.{length};
 ghost use Rattle.views.specs.Row.{viewsOf};
 ghost use Rattle.rules.specs.Sets.{members, within};
-ghost use Rattle.rules.specs.WellFormed.{isPair, isZeroPair, goodMove, goodPlan};
+ghost use Rattle.rules.specs.WellFormed.{isPair, isZeroPair, goodMove, goodInstalled};
 ghost use Rattle.good.specs.Rows.{held};
 use stamps::Pair;
 use views::Sequence;
@@ -51,8 +51,8 @@ pub(crate) fn good_move(o: u16, w: u16) -> bool
 }
 
 // An install's sequence.
-pub(crate) fn good_plan(o: u16, w: u16, q: Sequence) -> bool
-    ensures { λ r. ⌜ r ≡ goodPlan o w (viewsOf q) ⌝ }
+pub(crate) fn good_installed(o: u16, w: u16, q: Sequence) -> bool
+    ensures { λ r. ⌜ r ≡ goodInstalled o w (viewsOf q) ⌝ }
 {
     if views::count(q) == 0 {
         return false;

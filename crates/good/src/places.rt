@@ -130,7 +130,7 @@ fn good_install(from: u8, to: u8, o: u16, w: u16, q: Sequence) -> bool
     if !super::parts::good_move(o, w) {
         return false;
     }
-    if !super::parts::good_plan(o, w, q) {
+    if !super::parts::good_installed(o, w, q) {
         return false;
     }
     if between(o, o, from, to) {
@@ -217,7 +217,7 @@ fn good_place_row(w: &[u8], at: usize) -> bool
 {
     let kind = rows::byte_at(w, at);
     if kind == 0 {
-        return rows::is_zero(w, at, 80);
+        return rows::is_zero(w, at, image::PLACE);
     }
     if 11 < kind {
         return false;
@@ -241,7 +241,7 @@ pub(crate) fn good_places(w: &[u8]) -> bool
     ensures { λ r. ⌜ r ≡ all 256 (λ p. placeGood (now (w .entry)) (43776 + p * 80)) ⌝ }
 {
     for p in 0..256usize {
-        if !good_place_row(w, 43776 + p * 80) {
+        if !good_place_row(w, image::PLACES + p * image::PLACE) {
             return false;
         }
     }

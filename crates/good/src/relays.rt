@@ -65,14 +65,14 @@ fn good_relay(w: &[u8], s: u8) -> bool
     requires { ⌜ (length (now w) ≡ 65536) × (s < 8) ⌝ }
     ensures { λ r. ⌜ r ≡ relayGood (now (w .entry)) s ⌝ }
 {
-    let at = s as usize * 5440;
+    let at = s as usize * image::RELAY;
     if !good_head_row(w, s, at) {
         return false;
     }
-    if !super::tables::good_table(w, s, at + 64, 592) {
+    if !super::tables::good_table(w, s, at + image::GENERATORS, image::GENERATOR) {
         return false;
     }
-    super::tables::good_table(w, s, at + 4800, 80)
+    super::tables::good_table(w, s, at + image::TRANSFERS, image::TRANSFER)
 }
 
 pub(crate) fn good_relays(w: &[u8]) -> bool

@@ -11,7 +11,7 @@ fn same_name(w: &[u8], a: usize, b: usize, width: usize) -> bool
     requires { ⌜ (a + 4 ≤ length (now w)) × (b + 4 ≤ length (now w)) ⌝ }
     ensures { λ r. ⌜ not r ≡ otherRow width (now (w .entry)) a b ⌝ }
 {
-    if width == 592 {
+    if width == image::GENERATOR {
         return rows::read_u16(w, a) == rows::read_u16(w, b);
     }
     if rows::read_u16(w, a) != rows::read_u16(w, b) {
@@ -42,7 +42,7 @@ fn good_place(w: &[u8], s: u8, at: usize, i: usize, width: usize) -> bool
         return false;
     }
     let o = at + i * width;
-    if width == 592 {
+    if width == image::GENERATOR {
         return super::generators::good_generator_row(w, s, o);
     }
     super::transfers::good_transfer_row(w, s, o)

@@ -4,7 +4,7 @@ ghost use Prim.Native.Nat.{_+_, _≤_};
 ghost use lib.ListN.{length};
 ghost use Rattle.views.specs.Row.{viewsOf};
 ghost use Rattle.rules.specs.Sets.{_||_, none};
-ghost use Rattle.rules.specs.WellFormed.{goodPlan, goodTransfer};
+ghost use Rattle.rules.specs.WellFormed.{goodInstalled, goodTransfer};
 ghost use Rattle.state.specs.Meaning.{transferOf};
 ghost use Rattle.good.specs.Rows.{rowGood};
 use state::Transfer;
@@ -12,12 +12,12 @@ use views::Sequence;
 
 // A transfer's sequence, if the install has come.
 fn good_sequence(o: u16, w: u16, q: Sequence) -> bool
-    ensures { λ r. ⌜ r ≡ (none (viewsOf q) || goodPlan o w (viewsOf q)) ⌝ }
+    ensures { λ r. ⌜ r ≡ (none (viewsOf q) || goodInstalled o w (viewsOf q)) ⌝ }
 {
     if views::count(q) == 0 {
         return true;
     }
-    super::parts::good_plan(o, w, q)
+    super::parts::good_installed(o, w, q)
 }
 
 fn good_transfer(s: u8, t: Transfer) -> bool

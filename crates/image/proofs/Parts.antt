@@ -16,8 +16,8 @@ use Rattle.rules.proofs.ImageRows.{addressed, row-of}
 use Rattle.state.specs.declared.Head.{Head}
 use Rattle.state.specs.declared.Body.{Body}
 use Rattle.state.specs.declared.Message.{Message}
-use Rattle.state.specs.Meaning.{relayOf, bodyOf, messageOf}
-use Rattle.image.specs.Parts.{headAt, addressedRow, messageRow, Plain}
+use Rattle.state.specs.Meaning.{rowOfBody, relayOf, bodyOf, messageOf}
+use Rattle.image.specs.Parts.{headAt, messageRow, Plain}
 
 -- ---- a relay is its head with its two tables
 
@@ -42,7 +42,7 @@ note-at qs k = sym (List·getD-map viewsOf qs k (record { views = []; len = 0 })
 
 module _ (m : Message) where
   pub place-is : placeIn (messageRow m) ≡ (if leb 1 (m .body .kind) && leb (m .body .kind) 11 then waiting (messageOf m) else free)
-  unfolding placeIn bodyIn messageRow addressedRow messageOf bodyOf
+  unfolding placeIn bodyIn messageRow messageOf bodyOf
   place-is = refl
 
   pub place-of : 1 ≤ m .body .kind → m .body .kind ≤ 11 → placeIn (messageRow m) ≡ waiting (messageOf m)
@@ -50,10 +50,10 @@ module _ (m : Message) where
 
 -- ---- a plain body's row is the row of what it says
 
-module _ (b : Body) (x : rules.Body) (e : addressedRow 0 0 b ≡ bodyRow 0 0 x) where
+module _ (b : Body) (x : rules.Body) (e : rowOfBody b ≡ bodyRow 0 0 x) where
   -- a body's row says the body: so of a body that is made for x it is enough to say its row
   pub made-means : bodyOf b ≡ x
-  unfolding bodyOf addressedRow
+  unfolding bodyOf
   made-means = ap bodyIn e ∙ row-of 0 0 x .says
 
   pub made-plain : Plain b
@@ -61,7 +61,7 @@ module _ (b : Body) (x : rules.Body) (e : addressedRow 0 0 b ≡ bodyRow 0 0 x) 
 
 module _ (m : Message) (p : Plain (m .body)) where
   pub plain-row : messageRow m ≡ placeRow (waiting (messageOf m))
-  unfolding messageRow addressedRow messageOf addressed
+  unfolding messageRow messageOf addressed
   plain-row = ap (addressed (m .from) (m .to)) (p .is) ∙ sym (row-of (m .from) (m .to) (bodyOf (m .body)) .ends)
 
   pub plain-bytes : rowBytes (messageRow m) ≡ placeBytes (waiting (messageOf m))

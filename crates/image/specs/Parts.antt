@@ -9,7 +9,7 @@ use Rattle.rules.specs.Image.{Row, row, bodyRow, flagAt, sequenceBytes, sequenc
 use Rattle.state.specs.declared.Head.{Head}
 use Rattle.state.specs.declared.Body.{Body}
 use Rattle.state.specs.declared.Message.{Message}
-use Rattle.state.specs.Meaning.{bodyOf}
+use Rattle.state.specs.Meaning.{addressedRow, rowOfBody, bodyOf}
 
 unfoldable pub notesBytes : List (List ℕ) → List ℕ
 notesBytes qs = table sequenceBytes [] 8 qs
@@ -30,13 +30,9 @@ headAt b i =
       holds = pairAt b (i + 9);
     }
 
--- a body from one to another, field by field
-unfoldable pub addressedRow : ℕ → ℕ → Body → Row
-addressedRow s r b = row (b .kind) s r (b .first) (b .second) (b .tries) (viewsOf (b .sequence)) (b .pair) (b .updates)
-
 unfoldable pub messageRow : Message → Row
 messageRow m = addressedRow (m .from) (m .to) (m .body)
 
 -- "unused room is zero": a body says what its kind says, and every other field is zero
 pub record Plain (b : Body) : Type 0 where
-  pub is : addressedRow 0 0 b ≡ bodyRow 0 0 (bodyOf b)
+  pub is : rowOfBody b ≡ bodyRow 0 0 (bodyOf b)

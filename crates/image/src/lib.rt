@@ -23,6 +23,27 @@ use state::Notes;
 use state::Transfer;
 use views::Sequence;
 
+// Where the rows stand, and how wide they are: "One lent buffer of exactly 65,536 bytes"; docs/DECISIONS.md, 32.
+pub const SIZE: usize = 65536;
+
+pub const RELAY: usize = 5440;
+
+pub const GENERATORS: usize = 64;
+
+pub const GENERATOR: usize = 592;
+
+pub const TRANSFERS: usize = 4800;
+
+pub const TRANSFER: usize = 80;
+
+pub const DESKS: usize = 43520;
+
+pub const DESK: usize = 64;
+
+pub const PLACES: usize = 43776;
+
+pub const PLACE: usize = 80;
+
 pub fn sequence_at(s: &[u8], at: usize) -> Sequence
     ensures { λ r. ⌜ viewsOf r ≡ sequenceAt (now (s .entry)) at ⌝ }
 {
@@ -199,7 +220,7 @@ fn put_generator_fields(s: &mut [u8], at: usize, g: Generator)
 pub fn put_generator(s: &mut [u8], at: usize, g: Generator)
     ensures { λ _. ⌜ now (s .exit) ≡ placed (now (s .entry)) at (generatorBytes (generatorOf g)) ⌝ }
 {
-    if !rows::has_room(s.len(), at, 592) {
+    if !rows::has_room(s.len(), at, GENERATOR) {
         return;
     }
     put_generator_fields(s, at, g);

@@ -16,16 +16,3 @@ blankOf kind = record { kind = kind; first = 0; second = 0; tries = 0; sequence 
 -- a set of receivers has the numbers 0 to 15: to any other, nothing goes
 abbrev pub toOneOf : ℕ → rules.Body → rules.Sending
 toOneOf s b = if ltb s 16 then rules.toOne s b else record { body = b; receivers = 0 }
-
--- a body field by field, as the image has a message's row
-unfoldable pub fieldsOf : Body → Row
-fieldsOf b = row (b .kind) 0 0 (b .first) (b .second) (b .tries) (viewsOf (b .sequence)) (b .pair) (b .updates)
-
--- what a body of a kind with a try says, kinds 7 to 11
-unfoldable pub tryIn : Body → rules.Body
-tryIn b =
-    if eqb (b .kind) 7 then rules.get (b .tries) (b .first)
-    else if eqb (b .kind) 8 then rules.put (b .tries) (b .first) (b .pair)
-    else if eqb (b .kind) 9 then rules.viewReply (b .tries) (b .first)
-    else if eqb (b .kind) 10 then rules.pairReply (b .tries) (b .pair)
-    else rules.ack (b .tries)

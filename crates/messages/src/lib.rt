@@ -2,10 +2,10 @@
 ghost use mathlib.Core.Path.{_≡_};
 ghost use Rattle.views.specs.Row.{viewsOf};
 ghost use Rattle.rules.specs.Messages as rules;
-ghost use Rattle.rules.specs.Image.{row, bodyRow};
-ghost use Rattle.state.specs.Meaning.{bodyOf, sendingOf};
+ghost use Rattle.rules.specs.Image.{row, bodyRow, tryIn};
+ghost use Rattle.state.specs.Meaning.{rowOfBody, bodyOf, sendingOf};
 ghost use Rattle.state.specs.Plans.{noSending};
-ghost use Rattle.messages.specs.Made.{blankOf, fieldsOf, tryIn, toOneOf};
+ghost use Rattle.messages.specs.Made.{blankOf, toOneOf};
 use stamps::Pair;
 use state::Body;
 use state::Sending;
@@ -135,7 +135,7 @@ fn says(
     pair: Pair,
     updates: u16,
 ) -> Body
-    ensures { λ r. ⌜ fieldsOf r ≡ row kind 0 0 first second tries (viewsOf sequence) pair updates ⌝ }
+    ensures { λ r. ⌜ rowOfBody r ≡ row kind 0 0 first second tries (viewsOf sequence) pair updates ⌝ }
 {
     Body {
         kind: kind,
@@ -150,7 +150,7 @@ fn says(
 
 // The same body as its own kind has it: "unused room is zero". A number that is no kind is an acknowledgement's.
 pub fn plain(b: Body) -> Body
-    ensures { λ r. ⌜ fieldsOf r ≡ bodyRow 0 0 (bodyOf b) ⌝ }
+    ensures { λ r. ⌜ rowOfBody r ≡ bodyRow 0 0 (bodyOf b) ⌝ }
 {
     let kind = b.kind;
     let q = b.sequence;
@@ -180,7 +180,7 @@ pub fn plain(b: Body) -> Body
 
 // The kinds that have a try.
 fn plain_try(b: Body) -> Body
-    ensures { λ r. ⌜ fieldsOf r ≡ bodyRow 0 0 (tryIn b) ⌝ }
+    ensures { λ r. ⌜ rowOfBody r ≡ bodyRow 0 0 (tryIn (rowOfBody b)) ⌝ }
 {
     let kind = b.kind;
     let p = b.pair;

@@ -18,7 +18,7 @@ use Rattle.rules.specs.Sets.{_&&_, bit, members, member, lacks, conflict
 use Rattle.rules.specs.Messages.{Sending, proposal, converged, install, toMembers, toBoth}
 use Rattle.rules.specs.State.{Generator}
 use Rattle.rules.specs.Generators.{fresh, generatorFor, Turn, withOwn, proposes, agree, hears, settles, proposalHeard, notesConverged, raises, convergedHeard}
-use Rattle.rules.specs.WellFormed.{isView, allFrom, goodNote, goodNotes, goodGenerator, goodMove, goodPlan, goodBody}
+use Rattle.rules.specs.WellFormed.{isView, allFrom, goodNote, goodNotes, goodGenerator, goodMove, goodInstalled, goodBody}
 use Rattle.rules.proofs.Hold.{hold-facts, hold-tests, from-set, all-parts}
 use Rattle.rules.proofs.Sends.{SendWell, SendsWell, sends-none, sends-one, sends-append, has-members}
 
@@ -197,7 +197,7 @@ proposal-good s g good from q f a n =
 -- ---- Converged
 
 install-well : (s v : ℕ) (q : List ℕ) → member v s ≡ true → above v q ≡ true → none q ≡ false → SendWell s (toBoth v (least q) (install v (least q) q))
-unfolding goodBody goodMove goodPlan
+unfolding goodBody goodMove goodInstalled
 install-well s v [] m a n k l b = absurd (contrary refl n)
 install-well s v (w ∷ ws) m a n k l b =
     let x = above-fact v (w ∷ ws) a in

@@ -19,7 +19,7 @@ use Rattle.rules.specs.Messages.{Body, request, view, proposal, converge
 use Rattle.rules.specs.State.{Generator, Transfer, Relay, Phase, Idle, Read1, Read2, Write1, Write2, Desk, Place, free, waiting}
 use Rattle.rules.specs.Generators.{fresh}
 use Rattle.rules.specs.Relays.{freshTransfer}
-use Rattle.rules.specs.WellFormed.{isView, isStamp, isPair, isZeroPair, implies, allFrom, distinct, goodNote, goodNotes, goodGenerator, goodMove, goodPlan, goodTransfer, otherView, otherMove, goodGenerators, goodTransfers, goodRelay, goodBest, noBest, goodPhase, goodDesk, isDesk, between, asked, replied, goodRequest, goodBody, goodPlace}
+use Rattle.rules.specs.WellFormed.{isView, isStamp, isPair, isZeroPair, implies, allFrom, distinct, goodNote, goodNotes, goodGenerator, goodMove, goodInstalled, goodTransfer, otherView, otherMove, goodGenerators, goodTransfers, goodRelay, goodBest, noBest, goodPhase, goodDesk, isDesk, between, asked, replied, goodRequest, goodBody, goodPlace}
 use Rattle.rules.specs.Image.{filledGenerator, filledTransfer, Row, row, bodyRow, placeRow}
 use Rattle.rules.proofs.Hold.{hold-facts, from-at, all-parts}
 
@@ -182,8 +182,8 @@ old-view o w e =
     let lower = inside-lt (inside-fact o w (h .1 .1 .0)) in
     (omega arith, (small, λ z. contrary (rw z at (h .1 .0)) refl))
 
-plan-fits : (o w : ℕ) (q : List ℕ) → goodMove o w ≡ true → goodPlan o w q ≡ true → SequenceFits q
-unfolding goodPlan
+plan-fits : (o w : ℕ) (q : List ℕ) → goodMove o w ≡ true → goodInstalled o w q ≡ true → SequenceFits q
+unfolding goodInstalled
 plan-fits o w q m p = let h = old-view o w m in above-fit o q (h .0) (h .1 .1) (hold-facts _ p .1 .0)
 
 pub transfer-fits : (s : ℕ) (t : Transfer) → goodTransfer s t ≡ true → TransferFits t
@@ -200,7 +200,7 @@ transfer-fits s t e =
       gathered = ltb-true (t .gathered) 65536 (h .1 .1 .1 .1 .1 .0);
     }
   where
-    go : (q : List ℕ) → goodMove (t .old) (t .new) ≡ true → none q || goodPlan (t .old) (t .new) q ≡ true → SequenceFits q
+    go : (q : List ℕ) → goodMove (t .old) (t .new) ≡ true → none q || goodInstalled (t .old) (t .new) q ≡ true → SequenceFits q
     go [] m p = no-views
     go (w ∷ q) m p = plan-fits (t .old) (t .new) (w ∷ q) m p
 

@@ -17,7 +17,7 @@ use Rattle.rules.specs.Stamps.{Pair, greatest}
 use Rattle.rules.specs.Messages.{state, Sending, toMembers, nothing, opened, Answer, refused, does}
 use Rattle.rules.specs.State.{Transfer, Relay, withActive, withTransfers}
 use Rattle.rules.specs.Relays.{freshTransfer, isFor, transferFor, putTransfer, keeps, gathers, passes, moved, onward, enters, tested, early, stopped, handed, takesInstall, sentFirst, installHeard, stateHeard}
-use Rattle.rules.specs.WellFormed.{isPair, distinct, goodMove, goodPlan, goodTransfer, otherMove, goodBody}
+use Rattle.rules.specs.WellFormed.{isPair, distinct, goodMove, goodInstalled, goodTransfer, otherMove, goodBody}
 use Rattle.rules.specs.Lent.{kept}
 use Rattle.rules.proofs.Hold.{hold-facts, hold-tests, all-parts, all-those, distinct-those, all-put, distinct-put}
 use Rattle.rules.proofs.Sends.{SendWell, SendsWell, sends-none, sends-one, sends-append, one-more}
@@ -26,7 +26,7 @@ use Rattle.rules.proofs.Relays.{Rel, rel-tables, GoodAnswer, refuses-we
 pub record Tra (s : ℕ) (t : Transfer) : Type 0 where
   pub owner : member (t .new) s ≡ true
   pub move : goodMove (t .old) (t .new) ≡ true
-  pub plan : none (t .sequence) || goodPlan (t .old) (t .new) (t .sequence) ≡ true
+  pub plan : none (t .sequence) || goodInstalled (t .old) (t .new) (t .sequence) ≡ true
   pub senders : within (t .senders) (members (t .old)) ≡ true
   pub best : isPair (t .best) ≡ true
   pub gathered : t .gathered < 65536
@@ -116,11 +116,11 @@ module _ (s : ℕ) (r : Relay) (h : Rel s r) (t : Transfer) (k : Tra s t) where
         apart = distinct-those otherMove (λ u. inside (t .new) (u .new)) (r .transfers) (h .apart);
       }
 
-  planned : none (t .sequence) ≡ false → goodPlan (t .old) (t .new) (t .sequence) ≡ true
+  planned : none (t .sequence) ≡ false → goodInstalled (t .old) (t .new) (t .sequence) ≡ true
   planned n = rw n at (k .plan)
 
   enters-good : none (t .sequence) ≡ false → GoodAnswer s (enters r t)
-  unfolding enters goodPlan
+  unfolding enters goodInstalled
   enters-good n =
       let p = hold-facts _ (planned n) in
       let mv = move-facts (t .old) (t .new) (k .move) in
@@ -166,7 +166,7 @@ module _ (s : ℕ) (r : Relay) (h : Rel s r) (o w : ℕ) (mv : goodMove o w ≡ 
   state-well p updates m i u n l b =
       hold-tests _ (mv, (and-eq-true-iff _ _ .1 (m, member-bit w n ∙ b), (i, (lt-ltb _ _ u, tt))))
 
-  takes-good : (q : List ℕ) → goodPlan o w q ≡ true → GoodAnswer s (takesInstall s r o w q)
+  takes-good : (q : List ℕ) → goodInstalled o w q ≡ true → GoodAnswer s (takesInstall s r o w q)
   unfolding takesInstall keeps
   takes-good q g =
       cases (GoodAnswer s) (inside (r .view) w && member w s)
@@ -178,7 +178,7 @@ module _ (s : ℕ) (r : Relay) (h : Rel s r) (o w : ℕ) (mv : goodMove o w ≡ 
         owner = k .owner;
         move = k .move;
         plan =
-            cases (λ (x : List ℕ). none x || goodPlan (transferFor o w (r .transfers) .old) (transferFor o w (r .transfers) .new) x ≡ true) (none (transferFor o w (r .transfers) .sequence))
+            cases (λ (x : List ℕ). none x || goodInstalled (transferFor o w (r .transfers) .old) (transferFor o w (r .transfers) .new) x ≡ true) (none (transferFor o w (r .transfers) .sequence))
             (λ z. true-right (none q) (rw (found-old o w (r .transfers), found-new o w (r .transfers)) g))
             (λ z. k .plan);
         senders = k .senders;
@@ -199,7 +199,7 @@ stopped-good s r h o w =
     (λ e. record { view = h .view; known = h .known; pending = h .pending; holds = h .holds; active = refl; entered = h .entered; generators = h .generators; different = h .different; transfers = h .transfers; apart = h .apart })
     (λ e. h)
 
-pub install-kept : (s : ℕ) (r : Relay) → Rel s r → (o w : ℕ) (q : List ℕ) → goodMove o w ≡ true → goodPlan o w q ≡ true → GoodAnswer s (installHeard s r o w q)
+pub install-kept : (s : ℕ) (r : Relay) → Rel s r → (o w : ℕ) (q : List ℕ) → goodMove o w ≡ true → goodInstalled o w q ≡ true → GoodAnswer s (installHeard s r o w q)
 unfolding installHeard
 install-kept s r h o w q mv g =
     cases (GoodAnswer s) (early s r o) (λ e. refuses-well s _)

@@ -9,7 +9,7 @@ use Rattle.rules.specs.Sets.{member, reaches, inside, clash, some, same,
 use Rattle.rules.specs.Stamps.{sign, compared, greater, sameStamp, greatest}
 use Rattle.rules.specs.Messages.{copies, outgoing}
 use Rattle.rules.specs.State.{withKnown, withPending, withActive, withHolds, withGenerators, withTransfers, crashedRelay, crashedDesk, startRelay, startDesk, start}
-use Rattle.rules.specs.Generators.{fresh, generatorFor, putGenerator, withOwn, proposes, noted, hears, settles, proposalHeard, notesConverged, raises, convergedHeard}
+use Rattle.rules.specs.Generators.{fresh, generatorFor, putGenerator, withOwn, proposes, agreeing, hears, settles, proposalHeard, notesConverged, raises, convergedHeard}
 use Rattle.rules.specs.Relays.{atGenerator, joinAsked, leaveAsked, timerRang, requestHeard, learns, freshTransfer, transferFor, putTransfer, keeps, gathers, moved, enters, tested, takesInstall, installHeard, stateHeard, getHeard, putHeard, relayHears}
 use Rattle.rules.specs.Desks.{begins, readAsked, writeAsked, viewCame, notesPair, notesAck, takesStamp, completes, counted, pairCame, ackCame, deskHears}
 use Rattle.rules.specs.Sending.{place, placeAll, freeIn, waitingIn}
@@ -19,7 +19,7 @@ use Rattle.rules.specs.Runs.{outcomes, lastWorld, sum, digits, line, ste
 
 -- the record of a run, and that of a sheet, with all that they are made of in sight
 unfoldable pub recorded : ℕ → List Step → List ℕ
-unfolding crashedRelay crashedDesk ones onesIn inside clash some same plus unite heard above member reaches those sign compared greater sameStamp greatest copies outgoing withKnown withPending withActive withHolds withGenerators withTransfers startRelay startDesk start fresh generatorFor putGenerator withOwn proposes noted hears settles proposalHeard notesConverged raises convergedHeard atGenerator joinAsked leaveAsked timerRang requestHeard learns freshTransfer transferFor putTransfer keeps gathers moved enters tested takesInstall installHeard stateHeard getHeard putHeard relayHears begins readAsked writeAsked viewCame notesPair notesAck takesStamp completes counted pairCame ackCame deskHears place placeAll freeIn waitingIn told roomy relayDoes deskDoes ifAlive freed delivers delivery dropping crashing acts stepped outcomes lastWorld sum digits line stepLines printed
+unfolding crashedRelay crashedDesk ones onesIn inside clash some same plus unite heard above member reaches those sign compared greater sameStamp greatest copies outgoing withKnown withPending withActive withHolds withGenerators withTransfers startRelay startDesk start fresh generatorFor putGenerator withOwn proposes agreeing hears settles proposalHeard notesConverged raises convergedHeard atGenerator joinAsked leaveAsked timerRang requestHeard learns freshTransfer transferFor putTransfer keeps gathers moved enters tested takesInstall installHeard stateHeard getHeard putHeard relayHears begins readAsked writeAsked viewCame notesPair notesAck takesStamp completes counted pairCame ackCame deskHears place placeAll freeIn waitingIn told roomy relayDoes deskDoes ifAlive freed delivers delivery dropping crashing acts stepped outcomes lastWorld sum digits line stepLines printed
 recorded mask ks = printed mask ks
 
 unfoldable pub rehearsal-of : List ℕ → List ℕ

@@ -42,13 +42,13 @@ abbrev pub oneIf : Bool → ℕ
 oneIf b = if b then 1 else 0
 
 -- the mask of those whose last note is q
-unfoldable pub noted : List (List ℕ) → List ℕ → ℕ
-noted [] q = 0
-noted (n ∷ ns) q = noted ns q * 2 + oneIf (same n q)
+unfoldable pub agreeing : List (List ℕ) → List ℕ → ℕ
+agreeing [] q = 0
+agreeing (n ∷ ns) q = agreeing ns q * 2 + oneIf (same n q)
 
 -- "a quorum of v's last noted proposals equal own"
 abbrev pub agree : ℕ → List (List ℕ) → List ℕ → Bool
-agree v notes q = reaches v (noted notes q)
+agree v notes q = reaches v (agreeing notes q)
 
 -- ---- Proposal: "note it for the sender. If q has a view that own lacks: [..] Send the new own to all members." What own becomes is `heard` (views).
 

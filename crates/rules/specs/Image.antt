@@ -243,6 +243,15 @@ rowAt b i =
     (u16At b (i + 3)) (u16At b (i + 5)) (u16At b (i + 7))
     (sequenceAt b (i + 9)) (pairAt b (i + 40)) (u16At b (i + 47))
 
+-- what a row of a kind 7 to 11 says: those have a try
+abbrev pub tryIn : Row → Body
+tryIn m =
+    if eqb (m .kind) 7 then get (m .tries) (m .first)
+    else if eqb (m .kind) 8 then put (m .tries) (m .first) (m .pair)
+    else if eqb (m .kind) 9 then viewReply (m .tries) (m .first)
+    else if eqb (m .kind) 10 then pairReply (m .tries) (m .pair)
+    else ack (m .tries)
+
 -- what a row of a kind 1 to 11 says
 unfoldable pub bodyIn : Row → Body
 bodyIn m =
@@ -252,11 +261,7 @@ bodyIn m =
     else if eqb (m .kind) 4 then converged (m .first) (m .sequence)
     else if eqb (m .kind) 5 then install (m .first) (m .second) (m .sequence)
     else if eqb (m .kind) 6 then state (m .first) (m .second) (m .pair) (m .updates)
-    else if eqb (m .kind) 7 then get (m .tries) (m .first)
-    else if eqb (m .kind) 8 then put (m .tries) (m .first) (m .pair)
-    else if eqb (m .kind) 9 then viewReply (m .tries) (m .first)
-    else if eqb (m .kind) 10 then pairReply (m .tries) (m .pair)
-    else ack (m .tries)
+    else tryIn m
 
 unfoldable pub placeIn : Row → Place
 placeIn m =

@@ -75,15 +75,15 @@ unfoldable pub goodMove : ℕ → ℕ → Bool
 goodMove o w = allHold (isView w ∷ not (eqb (members o) 0) ∷ inside o w ∷ [])
 
 -- an install's sequence
-unfoldable pub goodPlan : ℕ → ℕ → List ℕ → Bool
-goodPlan o w q = allHold (not (none q) ∷ above o q ∷ eqb (least q) w ∷ [])
+unfoldable pub goodInstalled : ℕ → ℕ → List ℕ → Bool
+goodInstalled o w q = allHold (not (none q) ∷ above o q ∷ eqb (least q) w ∷ [])
 
 unfoldable pub goodTransfer : ℕ → Transfer → Bool
 goodTransfer s t =
     allHold (
     member (t .new) s
     ∷ goodMove (t .old) (t .new)
-    ∷ (none (t .sequence) || goodPlan (t .old) (t .new) (t .sequence))
+    ∷ (none (t .sequence) || goodInstalled (t .old) (t .new) (t .sequence))
     ∷ within (t .senders) (members (t .old))
     ∷ isPair (t .best)
     ∷ isView (t .gathered)
@@ -164,7 +164,7 @@ goodBody m (request u c) = allHold (ltb (m .from) 8 ∷ isView c ∷ goodRequest
 goodBody m (view v) = allHold (ltb (m .from) 8 ∷ ltb (m .to) 8 ∷ isView v ∷ not (eqb v 0) ∷ [])
 goodBody m (proposal v q) = allHold (isView v ∷ between v v m ∷ above v q ∷ not (none q) ∷ [])
 goodBody m (converged v q) = allHold (isView v ∷ between v v m ∷ above v q ∷ not (none q) ∷ [])
-goodBody m (install o w q) = allHold (goodMove o w ∷ goodPlan o w q ∷ (between o o m || between o w m) ∷ [])
+goodBody m (install o w q) = allHold (goodMove o w ∷ goodInstalled o w q ∷ (between o o m || between o w m) ∷ [])
 goodBody m (state o w p updates) = allHold (goodMove o w ∷ between o w m ∷ isPair p ∷ isView updates ∷ [])
 goodBody m (get try c) = allHold (ltb try 65536 ∷ isView c ∷ asked c m ∷ [])
 goodBody m (put try c p) = allHold (ltb try 65536 ∷ isView c ∷ asked c m ∷ isPair p ∷ [])

@@ -19,7 +19,7 @@ use Rattle.views.proofs.Merge.{heard-contains}
 use Rattle.rules.specs.Sets.{none, same}
 use Rattle.rules.specs.Messages.{proposal, converged, install, toMembers, toBoth}
 use Rattle.rules.specs.State.{Generator}
-use Rattle.rules.specs.Generators.{Turn, withOwn, proposes, oneIf, noted, agree, hears, settles, proposalHeard, notesConverged, raises, convergedHeard}
+use Rattle.rules.specs.Generators.{Turn, withOwn, proposes, oneIf, agreeing, agree, hears, settles, proposalHeard, notesConverged, raises, convergedHeard}
 use Rattle.safety.proofs.Lists.{All, all-none, all-append}
 use Rattle.safety.proofs.Sequences.{_⊆_}
 use Rattle.safety.proofs.Bridge.{has-in, in-has, nil-lacks, Kept, kept-full, full-none, none-nil, full-kept, kept-sequence, kept-above, heard-kept, heard-merge}
@@ -38,21 +38,21 @@ pub record TurnDone (start : ℕ) (l : Log) (k v : ℕ) (t : Turn) : Type 0 wher
   pub sent : All (SendingBacked log k) (t .sendings)
 
 -- who agrees: a bit of the mask says that the note is q
-noted-bit : (ns : List (List ℕ)) (q : List ℕ) (k : ℕ) → bitOf (noted ns q) k ≡ true → getD ns k [] ≡ q
-unfolding noted digit
-noted-bit [] q k e = absurd (contrary e (bit-none k))
-noted-bit (n ∷ ns) q zero e = same-fact n q (go (same n q) (eqb-true _ 1 e))
+agreeing-bit : (ns : List (List ℕ)) (q : List ℕ) (k : ℕ) → bitOf (agreeing ns q) k ≡ true → getD ns k [] ≡ q
+unfolding agreeing digit
+agreeing-bit [] q k e = absurd (contrary e (bit-none k))
+agreeing-bit (n ∷ ns) q zero e = same-fact n q (go (same n q) (eqb-true _ 1 e))
   where
-    go : (b : Bool) → (noted ns q * 2 + oneIf b) / 2 ^ 0 % 2 ≡ 1 → b ≡ true
+    go : (b : Bool) → (agreeing ns q * 2 + oneIf b) / 2 ^ 0 % 2 ≡ 1 → b ≡ true
     go true h = refl
     go false h = absurd (omega arith)
-noted-bit (n ∷ ns) q (suc k) e =
-    noted-bit ns q k (bit-test (noted ns q) k (sym (ap (digit k) (half (same n q))) ∙ digit-shr k 1 (noted (n ∷ ns) q) ∙ ap (λ (i : ℕ). digit i (noted (n ∷ ns) q)) one ∙ bit-fact (noted (n ∷ ns) q) (suc k) e))
+agreeing-bit (n ∷ ns) q (suc k) e =
+    agreeing-bit ns q k (bit-test (agreeing ns q) k (sym (ap (digit k) (half (same n q))) ∙ digit-shr k 1 (agreeing (n ∷ ns) q) ∙ ap (λ (i : ℕ). digit i (agreeing (n ∷ ns) q)) one ∙ bit-fact (agreeing (n ∷ ns) q) (suc k) e))
   where
     one : 1 + k ≡ suc k
     one = omega arith
 
-    half : (b : Bool) → (noted ns q * 2 + oneIf b) / 2 ^ 1 ≡ noted ns q
+    half : (b : Bool) → (agreeing ns q * 2 + oneIf b) / 2 ^ 1 ≡ agreeing ns q
     half true = omega arith
     half false = omega arith
 
@@ -198,7 +198,7 @@ module _ {start : ℕ} {l : Log} {k v : ℕ} (S : Sound start l) where
       cases (TurnDone start l k v) (agree (g .view) (notesConverged g from q .convergences) q && not (same q (g .raised)))
       (λ e. go H (and-eq-true-iff _ _ .0 e .0)) (λ e. record { log = l; since = stay; sound = S; tied = H; sent = all-none })
     where
-      go : GeneratorTied l k v (notesConverged g from q) → reachesOf (g .view) (noted (notesConverged g from q .convergences) q) ≡ true
+      go : GeneratorTied l k v (notesConverged g from q) → reachesOf (g .view) (agreeing (notesConverged g from q .convergences) q) ≡ true
           → TurnDone start l k v (record {
             next = raises (notesConverged g from q) q;
             sendings = toBoth (g .view) (leastOf q) (install (g .view) (leastOf q) q) ∷ [];
@@ -220,9 +220,9 @@ module _ {start : ℕ} {l : Log} {k v : ℕ} (S : Sound start l) where
         where
           votes : Raise l v q
           votes = record {
-            voters = noted (notesConverged g from q .convergences) q;
-            quorum = subst (λ (x : ℕ). reachesOf x (noted (notesConverged g from q .convergences) q) ≡ true) (G .view-is) e;
-            each = λ j s i b. let z = noted-bit (notesConverged g from q .convergences) q j b in
+            voters = agreeing (notesConverged g from q .convergences) q;
+            quorum = subst (λ (x : ℕ). reachesOf x (agreeing (notesConverged g from q .convergences) q) ≡ true) (G .view-is) e;
+            each = λ j s i b. let z = agreeing-bit (notesConverged g from q .convergences) q j b in
                 ⊎-elim (λ y. absurd (kept-full h (sym z ∙ y))) (λ y. rw z at y) (H .heard j);
           }
 

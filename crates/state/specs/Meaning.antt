@@ -8,7 +8,7 @@ use Rattle.rules.specs.Sets.{if_then_else_}
 use Rattle.rules.specs.Messages as rules
 use Rattle.rules.specs.State.{Relay}
 use Rattle.rules.specs.State as rules-state
-use Rattle.rules.specs.Image.{row, bodyIn}
+use Rattle.rules.specs.Image.{Row, row, bodyIn}
 use Rattle.state.specs.declared.Notes.{Notes}
 use Rattle.state.specs.declared.Generator.{Generator}
 use Rattle.state.specs.declared.Transfer.{Transfer}
@@ -67,9 +67,16 @@ asList b x = if b then x ∷ [] else []
 unfoldable pub partOf : Part → Relay
 partOf p = relayOf (p .head) (asList (p .generates) (generatorOf (p .generator))) (asList (p .transfers) (transferOf (p .transfer)))
 
+-- a body from one to another, field by field, as the image has a message's row
+abbrev pub addressedRow : ℕ → ℕ → Body → Row
+addressedRow s r b = row (b .kind) s r (b .first) (b .second) (b .tries) (viewsOf (b .sequence)) (b .pair) (b .updates)
+
+abbrev pub rowOfBody : Body → Row
+rowOfBody b = addressedRow 0 0 b
+
 -- what a body says by its kind (Image); 11 and any number that is no kind: an acknowledgement
 unfoldable pub bodyOf : Body → rules.Body
-bodyOf b = bodyIn (row (b .kind) 0 0 (b .first) (b .second) (b .tries) (viewsOf (b .sequence)) (b .pair) (b .updates))
+bodyOf b = bodyIn (rowOfBody b)
 
 unfoldable pub messageOf : Message → rules.Message
 messageOf m = record { from = m .from; to = m .to; body = bodyOf (m .body) }

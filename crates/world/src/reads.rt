@@ -21,7 +21,7 @@ pub(crate) fn is_free(w: &[u8], p: usize) -> bool
     requires { ⌜ p < 256 ⌝ }
     ensures { λ r. ⌜ r ≡ freeRow (now (w .entry)) p ⌝ }
 {
-    rows::byte_at(w, 43776 + p * 80) == 0
+    rows::byte_at(w, image::PLACES + p * image::PLACE) == 0
 }
 
 pub(crate) fn free_places(w: &[u8]) -> usize
@@ -81,9 +81,9 @@ pub(crate) fn row_of(who: u8) -> usize
     ensures { λ r. ⌜ r ≡ rowOf who ⌝ }
 {
     if who < 8 {
-        return who as usize * 5440;
+        return who as usize * image::RELAY;
     }
-    43520 + (who as usize - 8) * 64
+    image::DESKS + (who as usize - 8) * image::DESK
 }
 
 pub(crate) fn alive_at(w: &[u8], who: u8) -> bool
@@ -110,7 +110,7 @@ pub(crate) fn generator_seat(w: &[u8], at: usize, v: u16) -> usize
     ensures { λ r. ⌜ First 8 (endsView (now (w .entry)) at v) r ⌝ }
 {
     for i in 0..8usize {
-        if ends_view(w, at + i * 592, v) {
+        if ends_view(w, at + i * image::GENERATOR, v) {
             return i;
         }
     }
@@ -137,7 +137,7 @@ pub(crate) fn transfer_seat(w: &[u8], at: usize, o: u16, n: u16) -> usize
     ensures { λ r. ⌜ First 8 (endsMove (now (w .entry)) at o n) r ⌝ }
 {
     for i in 0..8usize {
-        if ends_move(w, at + i * 80, o, n) {
+        if ends_move(w, at + i * image::TRANSFER, o, n) {
             return i;
         }
     }
@@ -169,14 +169,14 @@ pub(crate) fn part_at(w: &[u8], s: u8, v: u16, o: u16, n: u16) -> Part
     requires { ⌜ (goodBytes (now w) ≡ true) × (s < 8) ⌝ }
     ensures { λ r. ⌜ partOf r ≡ narrow (relayAt (worldAt (now (w .entry))) s) v (move o n) ⌝ }
 {
-    let at = s as usize * 5440;
+    let at = s as usize * image::RELAY;
     let head = image::head_at(w, at);
-    let i = generator_seat(w, at + 64, v);
-    let generates = is_filled(w, i, at + 64 + i * 592);
-    let generator = generator_in(w, at + 64 + i * 592, generates);
-    let j = transfer_seat(w, at + 4800, o, n);
-    let transfers = is_filled(w, j, at + 4800 + j * 80 + 2);
-    let transfer = image::transfer_at(w, at + 4800 + j * 80);
+    let i = generator_seat(w, at + image::GENERATORS, v);
+    let generates = is_filled(w, i, at + image::GENERATORS + i * image::GENERATOR);
+    let generator = generator_in(w, at + image::GENERATORS + i * image::GENERATOR, generates);
+    let j = transfer_seat(w, at + image::TRANSFERS, o, n);
+    let transfers = is_filled(w, j, at + image::TRANSFERS + j * image::TRANSFER + 2);
+    let transfer = image::transfer_at(w, at + image::TRANSFERS + j * image::TRANSFER);
     Part {
         head: head,
         generates: generates,
@@ -195,21 +195,32 @@ fn generator_seated(w: &[u8], s: u8, part: Part) -> bool
     if !part.generates {
         return true;
     }
-    generator_seat(w, s as usize * 5440 + 64, part.generator.view) < 8
+    generator_seat(
+        w,
+        s as usize * image::RELAY + image::GENERATORS,
+        part.generator.view,
+    )
+        < 8
 }
 
 fn transfer_seated(w: &[u8], s: u8, part: Part) -> bool
     requires { ⌜ (goodBytes (now w) ≡ true) × (s < 8) ⌝ }
     ensures { λ r. ⌜ r ≡ leb (length (widened (relayAt (worldAt (now (w .entry))) s) (partOf part) .transfers)) 8 ⌝ }
 {
-    let at = s as usize * 5440;
+    let at = s as usize * image::RELAY;
     if part.head.view != rows::read_u16(w, at + 3) {
         return true;
     }
     if !part.transfers {
         return true;
     }
-    transfer_seat(w, at + 4800, part.transfer.old, part.transfer.new) < 8
+    transfer_seat(
+        w,
+        at + image::TRANSFERS,
+        part.transfer.old,
+        part.transfer.new,
+    )
+        < 8
 }
 
 // NO ROOM: "the step needs more [..] generators or transfers than are free at its begin"

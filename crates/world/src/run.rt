@@ -193,7 +193,7 @@ pub fn rehearse(sheet: &[u8], world: &mut [u8], out: &mut [u8]) -> Rehearsed
     ensures last { λ _. ⌜ now (world .exit) ≡ worldLeft (now (sheet .entry)) (now (world .entry)) ⌝ }
     ensures printed { λ _. ⌜ now (out .exit) ≡ recordLeft (now (sheet .entry)) (now (world .entry)) (now (out .entry)) ⌝ }
 {
-    if world.len() != 65536 {
+    if world.len() != image::SIZE {
         return Rehearsed {
             answer: rules::BAD_WORLD,
             length: 0,

@@ -29,7 +29,7 @@ pub(crate) fn free(w: &mut [u8], p: usize)
     if 256 <= p {
         return;
     }
-    rows::clear(w, 43776 + p * 80, 80);
+    rows::clear(w, image::PLACES + p * image::PLACE, image::PLACE);
 }
 
 // "A new message takes the lowest free place"
@@ -47,7 +47,7 @@ fn place(w: &mut [u8], from: u8, to: u8, body: Body)
         to: to,
         body: plain,
     };
-    image::put_message(w, 43776 + p * 80, m);
+    image::put_message(w, image::PLACES + p * image::PLACE, m);
 }
 
 // "each to its receivers in ascending order"
@@ -92,7 +92,7 @@ fn kept_transfers(w: &[u8], at: usize, v: u16) -> Kept
     let mut of = [blank(); 8];
     let mut n = 0;
     for i in 0..8usize {
-        let t = image::transfer_at(w, at + i * 80);
+        let t = image::transfer_at(w, at + i * image::TRANSFER);
         if views::inside(v, t.new) {
             of[n] = t;
             n += 1;
@@ -108,7 +108,7 @@ fn put_kept(w: &mut [u8], at: usize, kept: Kept)
     let of = kept.of;
     for i in 0..8usize {
         let t = of[i];
-        image::put_transfer(w, at + i * 80, t);
+        image::put_transfer(w, at + i * image::TRANSFER, t);
     }
 }
 
@@ -118,19 +118,19 @@ fn put_transfers(w: &mut [u8], s: u8, part: Part)
     ensures { λ _. ⌜ (leb (length (widened (relayAt (worldAt (now (w .entry))) s) (partOf part) .transfers)) 8 ≡ true
         → now (w .exit) ≡ image (withRelay (worldAt (now (w .entry))) s (withTransfers (relayAt (worldAt (now (w .entry))) s) (widened (relayAt (worldAt (now (w .entry))) s) (partOf part) .transfers)))) ⌝ }
 {
-    let at = s as usize * 5440;
+    let at = s as usize * image::RELAY;
     let view = part.head.view;
     if view != rows::read_u16(w, at + 3) {
-        let kept = kept_transfers(w, at + 4800, view);
-        put_kept(w, at + 4800, kept);
+        let kept = kept_transfers(w, at + image::TRANSFERS, view);
+        put_kept(w, at + image::TRANSFERS, kept);
         return;
     }
     if !part.transfers {
         return;
     }
     let t = part.transfer;
-    let i = super::reads::transfer_seat(w, at + 4800, t.old, t.new);
-    image::put_transfer(w, at + 4800 + i * 80, t);
+    let i = super::reads::transfer_seat(w, at + image::TRANSFERS, t.old, t.new);
+    image::put_transfer(w, at + image::TRANSFERS + i * image::TRANSFER, t);
 }
 
 // ---- a relay
@@ -142,14 +142,14 @@ pub(crate) fn put_part(w: &mut [u8], s: u8, part: Part)
         → leb (length (widened (relayAt (worldAt (now (w .entry))) s) (partOf part) .transfers)) 8 ≡ true
         → now (w .exit) ≡ image (withRelay (worldAt (now (w .entry))) s (widened (relayAt (worldAt (now (w .entry))) s) (partOf part)))) ⌝ }
 {
-    let at = s as usize * 5440;
+    let at = s as usize * image::RELAY;
     let head = part.head;
     let g = part.generator;
-    let i = super::reads::generator_seat(w, at + 64, g.view);
+    let i = super::reads::generator_seat(w, at + image::GENERATORS, g.view);
     put_transfers(w, s, part);
     image::put_head(w, at, head);
     if !part.generates {
         return;
     }
-    image::put_generator(w, at + 64 + i * 592, g);
+    image::put_generator(w, at + image::GENERATORS + i * image::GENERATOR, g);
 }

@@ -5,7 +5,7 @@ use Prim.Native.Nat.{ℕ, _≤_, _<_}
 use native.Mathlib.Omega.{arith}
 use lib.ListN.{length, drop, length-map}
 use Rattle.views.specs.Row.{viewsOf}
-use Rattle.rules.specs.Generators.{noted}
+use Rattle.rules.specs.Generators.{agreeing}
 use Rattle.state.specs.Meaning.{notesOf}
 use Rattle.rules.proofs.Lists.{byte-le}
 use Rattle.generator.proofs.Notes.{noted-start, noted-small, noted-step}
@@ -13,7 +13,7 @@ use Rattle.generator.proofs.agreeing.Statement.{statement}
 use Rattle.generator.proofs.agreeing.Tie as tie
 
 abbrev Inv-loop : tie.InvT-loop
-Inv-loop q n mask₀ s₀ mask s = (s ≤ 8) × (mask ≡ noted (drop s (map viewsOf (n .of))) (viewsOf q))
+Inv-loop q n mask₀ s₀ mask s = (s ≤ 8) × (mask ≡ agreeing (drop s (map viewsOf (n .of))) (viewsOf q))
 
 abbrev μ-loop : tie.MeasureT-loop
 μ-loop q n mask₀ s₀ mask s = s
@@ -43,7 +43,7 @@ unfolding notesOf
 returns c =
     let s = c .before .before in
     let e : c .before .loop .s ≡ 0 = omega arith in
-    c .before .loop .inv .1 ∙ ap (λ (k : ℕ). noted (drop k (map viewsOf (s .args .t1 .of))) (viewsOf (s .args .q))) e
+    c .before .loop .inv .1 ∙ ap (λ (k : ℕ). agreeing (drop k (map viewsOf (s .args .t1 .of))) (viewsOf (s .args .q))) e
 
 pub agreeing-spec : {M : Type 1} → statement M
 agreeing-spec =

@@ -1,13 +1,13 @@
 -- `image::message_at` meets its contract. Assumes nothing.
 use borrow.Author.Needs.{needs}
 use Rattle.rules.specs.Image.{rowAt}
-use Rattle.image.specs.Parts.{addressedRow, messageRow}
+use Rattle.image.specs.Parts.{messageRow}
 use Rattle.image.proofs.Ends.{alike-end, row-alike}
 use Rattle.image.proofs.message_at.Statement.{statement}
 use Rattle.image.proofs.message_at.Tie as tie
 
 returns : tie.Need-returns
-unfolding messageRow addressedRow rowAt
+unfolding messageRow rowAt
 returns c =
     let start = c .before .before .before .before .before .before .before .before .before in
     let a = start .before .before .args in

@@ -3,13 +3,13 @@ use mathlib.Core.Path.{refl}
 use borrow.Author.Needs.{needs}
 use Rattle.rows.proofs.Numbers.{byte-number}
 use Rattle.rules.specs.Image.{rowBytes}
-use Rattle.image.specs.Parts.{addressedRow, messageRow}
+use Rattle.image.specs.Parts.{messageRow}
 use Rattle.image.proofs.Fields.{none, blank, piece, pair, laid-around}
 use Rattle.image.proofs.put_message.Statement.{statement}
 use Rattle.image.proofs.put_message.Tie as tie
 
 returns : tie.Need-returns
-unfolding rowBytes messageRow addressedRow
+unfolding rowBytes messageRow
 returns c =
     let b = c .before .before .before .before .before .before .before .before .struct-known9 .given in
     let m = c .before .before .before .before .before .before .before .before .before .before .before .before .before .before .struct-known3 .given in

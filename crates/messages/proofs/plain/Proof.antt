@@ -4,7 +4,6 @@ use borrow.Author.Tests.{ne-eqb}
 use Rattle.views.specs.Row.{viewsOf, rowOf}
 use Rattle.rules.specs.Image.{bodyIn}
 use Rattle.state.specs.Meaning.{bodyOf}
-use Rattle.messages.specs.Made.{tryIn}
 use Rattle.messages.proofs.plain.Statement.{statement}
 use Rattle.messages.proofs.plain.Tie as tie
 
@@ -33,7 +32,7 @@ unfolding bodyOf bodyIn viewsOf rowOf
 returns-6 c = rw (c .says6 .ensures, c .before .before .before .before .before .before .before .before .empty .ensures, c .before .if6 .taken)
 
 returns-7 : tie.Need-returns-7
-unfolding bodyOf bodyIn tryIn
+unfolding bodyOf bodyIn
 returns-7 c =
     let a = c .before .before .before .before .before .before .before .before .before .before .before .args in
     c .plain-try .ensures ∙ rw (ne-eqb (a .b .kind) 1 (c .before .before .before .before .before .before .if1 .left), ne-eqb (a .b .kind) 2 (c .before .before .before .before .before .if2 .left), ne-eqb (a .b .kind) 3 (c .before .before .before .before .if3 .left), ne-eqb (a .b .kind) 4 (c .before .before .before .if4 .left), ne-eqb (a .b .kind) 5 (c .before .before .if5 .left), ne-eqb (a .b .kind) 6 (c .before .if6 .left))

@@ -11,7 +11,7 @@ returns c = fails _ 0 (no (c .before .good-move .ensures) (c .if1 .taken))
 
 returns-2 : tie.Need-returns-2
 unfolding goodPlace goodBody
-returns-2 c = fails _ 1 (no (c .before .good-plan .ensures) (c .if2 .taken))
+returns-2 c = fails _ 1 (no (c .before .good-installed .ensures) (c .if2 .taken))
 
 returns-3 : tie.Need-returns-3
 unfolding goodPlace goodBody
@@ -19,7 +19,7 @@ returns-3 c =
     let t = c .before .before in
     let u = t .before .before in
     pass _ _ (yes (u .before .good-move .ensures) (u .if1 .left))
-    (pass _ _ (yes (t .before .good-plan .ensures) (t .if2 .left)) (last _ (either-first _ (sym (c .before .between .ensures) ∙ c .if3 .taken))))
+    (pass _ _ (yes (t .before .good-installed .ensures) (t .if2 .left)) (last _ (either-first _ (sym (c .before .between .ensures) ∙ c .if3 .taken))))
 
 returns-4 : tie.Need-returns-4
 unfolding goodPlace goodBody
@@ -28,7 +28,7 @@ returns-4 c =
     let t = b .before .before in
     let u = t .before .before in
     pass _ _ (yes (u .before .good-move .ensures) (u .if1 .left))
-    (pass _ _ (yes (t .before .good-plan .ensures) (t .if2 .left))
+    (pass _ _ (yes (t .before .good-installed .ensures) (t .if2 .left))
     (last _ (either-next (sym (b .before .between .ensures) ∙ b .if3 .left) (c .between2 .ensures))))
 
 pub good-install-spec : {M : Type 1} → statement M

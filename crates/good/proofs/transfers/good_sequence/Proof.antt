@@ -13,7 +13,7 @@ returns c = either-first _ (none-test (viewsOf (c .before .before .args .q)) (sy
 returns-2 : tie.Need-returns-2
 returns-2 c =
     let t = c .before in
-    either-next (some-test (viewsOf (t .before .before .args .q)) (omega (arith, t .before .count .ensures .0, t .if1 .left))) (c .good-plan .ensures)
+    either-next (some-test (viewsOf (t .before .before .args .q)) (omega (arith, t .before .count .ensures .0, t .if1 .left))) (c .good-installed .ensures)
 
 pub good-sequence-spec : {M : Type 1} → statement M
 good-sequence-spec = tie.close (tie.spec (λ c κs. tt) returns (λ c κs. tt) returns-2)
