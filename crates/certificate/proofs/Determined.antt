@@ -28,7 +28,7 @@ use Rattle.rules.specs.Generators as generators
 use Rattle.rules.specs.Relays as relays
 use Rattle.rules.specs.Desks.{begun, ended}
 use Rattle.rules.specs.Desks as desks
-use Rattle.rules.specs.Image.{bodyRow, sequenceBytes, sequenceAt, pairBytes, pairAt, headBytes, generatorBytes, generatorAt, transferBytes, transferAt, deskBytes, deskAt, rowBytes, rowAt, goodBytes}
+use Rattle.rules.specs.Image.{bodyRow, sequenceBytes, sequenceAt, pairAt, headBytes, generatorBytes, generatorAt, transferBytes, transferAt, deskBytes, deskAt, rowBytes, rowAt, goodBytes}
 use Rattle.rules.specs.Lent.{Lent, lentStart, lentStep}
 use Rattle.rules.specs.Runs.{decimal, line, fields, startOf, endOf, badOf}
 use Rattle.rules.specs.declared.Desk.{Desk}
@@ -320,9 +320,6 @@ image-put-sequence s at q = by-equation (placed s at (sequenceBytes (viewsOf q))
 
 pub image-pair-at : (s : List ℕ) (at : ℕ) → Determined (λ r. r ≡ pairAt s at)
 image-pair-at s at = by-equation (pairAt s at)
-
-pub image-put-pair : (s : List ℕ) (at : ℕ) (p : Pair) → Determined (λ b. b ≡ placed s at (pairBytes p))
-image-put-pair s at p = by-equation (placed s at (pairBytes p))
 
 pub image-head-at : (s : List ℕ) (at : ℕ) → Determined (λ r. r ≡ headAt s at)
 image-head-at s at = by-equation (headAt s at)

@@ -8,10 +8,10 @@ use Rattle.views.specs.Row.{viewsOf, rowOf}
 use Rattle.views.specs.declared.Sequence.{Sequence}
 use Rattle.stamps.specs.declared.Pair.{Pair}
 use Rattle.stamps.specs.Stamp.{freshPair}
-use Rattle.rows.specs.Bytes.{splice, placed, bytesOf, numberAt, be16, be32, u16At, run, tab, cat, zeros}
+use Rattle.rows.specs.Bytes.{splice, placed, bytesOf, numberAt, be16, u16At, run, tab, cat, zeros}
 use Rattle.rules.specs.State.{withKnown}
 use Rattle.rules.specs.State as state
-use Rattle.rules.specs.Image.{byte, flagAt, sequenceBytes, sequenceAt, pairBytes, pairAt, headBytes, generatorBytes, generatorAt, transferBytes, transferAt, deskBytes, deskAt, Row, row, rowBytes, rowAt}
+use Rattle.rules.specs.Image.{flagAt, sequenceBytes, sequenceAt, pairBytes, pairAt, headBytes, generatorBytes, generatorAt, transferBytes, transferAt, deskBytes, deskAt, Row, row, rowBytes, rowAt}
 use Rattle.rules.specs.declared.Desk.{Desk}
 use Rattle.rules.specs.declared.Phase.the-variants.{Read1}
 use Rattle.state.specs.declared.Notes.{Notes}
@@ -61,14 +61,6 @@ image-pair-at-the-next p = differ value (p (0 ∷ 1 ∷ 2 ∷ 0 ∷ 0 ∷ 0 ∷ 
 pub image-pair-at-low-half-only : ¬ ((s : List ℕ) (at : ℕ) → record { stamp = record { count = u16At s at; desk = getD s (at + 2) 0 }; value = u16At s (at + 3) } ≡ pairAt s at)
 unfolding numberAt pairAt
 image-pair-at-low-half-only p = differ value (p (0 ∷ 1 ∷ 2 ∷ 0 ∷ 0 ∷ 0 ∷ 77 ∷ []) 0) tt
-
-pub image-put-pair-nowhere : ¬ ((s : List ℕ) (at : ℕ) (p : Pair) → s ≡ placed s at (pairBytes p))
-unfolding placed splice bytesOf run zeros cat pairBytes
-image-put-pair-nowhere p = differ (entry 6) (p (zeros 7) 0 pair) tt
-
-pub image-put-pair-value-first : ¬ ((s : List ℕ) (at : ℕ) (p : Pair) → placed s at (cat (be32 (p .value) ∷ be16 (p .stamp .count) ∷ byte (p .stamp .desk) ∷ [])) ≡ placed s at (pairBytes p))
-unfolding placed splice bytesOf run zeros cat pairBytes
-image-put-pair-value-first p = differ (entry 6) (p (zeros 7) 0 pair) tt
 
 -- alive, entered and not active, of view 3, known view 7
 abbrev headRow : List ℕ

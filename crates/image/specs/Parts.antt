@@ -4,8 +4,7 @@ use mathlib.Core.Path.{_≡_}
 use mathlib.Core.List.{List, []}
 use Prim.Native.Nat.{ℕ, _+_, _*_}
 use Rattle.rows.specs.Bytes.{u16At, tab, table}
-use Rattle.views.specs.Row.{viewsOf}
-use Rattle.rules.specs.Image.{Row, row, bodyRow, flagAt, sequenceBytes, sequenceAt, pairAt}
+use Rattle.rules.specs.Image.{Row, bodyRow, flagAt, sequenceBytes, sequenceAt, pairAt}
 use Rattle.state.specs.declared.Head.{Head}
 use Rattle.state.specs.declared.Body.{Body}
 use Rattle.state.specs.declared.Message.{Message}

@@ -7,7 +7,7 @@ ghost use Prim.Native.Nat.{_+_, _≤_};
 ghost use lib.ListN.{length};
 ghost use Rattle.rows.specs.Bytes.{placed, fieldsOf, sum};
 ghost use Rattle.views.specs.Row.{viewsOf};
-ghost use Rattle.rules.specs.Image.{sequenceBytes, sequenceAt, pairBytes, pairAt, headBytes, generatorBytes, generatorAt};
+ghost use Rattle.rules.specs.Image.{sequenceBytes, sequenceAt, pairAt, headBytes, generatorBytes, generatorAt};
 ghost use Rattle.rules.specs.Image.{transferBytes, transferAt, phaseNumber, phaseOf, deskBytes, deskAt, rowBytes, rowAt};
 ghost use Rattle.state.specs.Meaning.{notesOf, generatorOf, transferOf, relayOf};
 ghost use Rattle.image.specs.Parts.{notesBytes, notesAt, headAt, messageRow};
@@ -104,14 +104,6 @@ pub fn pair_at(s: &[u8], at: usize) -> Pair
         stamp: Stamp { count, desk },
         value,
     }
-}
-
-pub fn put_pair(s: &mut [u8], at: usize, p: Pair)
-    ensures { λ _. ⌜ now (s .exit) ≡ placed (now (s .entry)) at (pairBytes p) ⌝ }
-{
-    let widths = [2u8, 1, 4];
-    let xs = [p.stamp.count as u32, p.stamp.desk as u32, p.value];
-    rows::put_fields(s, at, &widths, &xs);
 }
 
 pub fn head_at(s: &[u8], at: usize) -> Head

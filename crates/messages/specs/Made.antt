@@ -1,12 +1,11 @@
 -- What the builders make beyond the words of the rules. Assumes nothing.
 use mathlib.Core.List.{[]}
 use Prim.Native.Nat.{ℕ}
-use lib.Dec.{eqb, ltb}
-use Rattle.views.specs.Row.{viewsOf, rowOf}
+use lib.Dec.{ltb}
+use Rattle.views.specs.Row.{rowOf}
 use Rattle.rules.specs.Sets.{if_then_else_}
 use Rattle.rules.specs.Stamps.{zeroPair}
 use Rattle.rules.specs.Messages as rules
-use Rattle.rules.specs.Image.{Row, row}
 use Rattle.state.specs.declared.Body.{Body}
 
 -- of this kind, and it says nothing yet
