@@ -21,7 +21,7 @@ use Rattle.rules.specs.Examples.{recorded}
 use Rattle.rules.proofs.Kept.{good-facts, step-keeps, run-keeps, always-good}
 use Rattle.rules.proofs.Counts.{sent-is-sum}
 use Rattle.rules.proofs.ImageWidths.{length-image}
-use Rattle.rules.proofs.ImageWorld.{image-injective}
+use Rattle.rules.proofs.ImageWorld.{image-good, image-injective}
 use Rattle.record.specs.Lines.{laid}
 use Rattle.record.proofs.Laying.{laid-front}
 use Rattle.record.proofs.Whole.{printed-is}
@@ -66,43 +66,43 @@ module _ (f : Program) (n : ℕ) (promised : PromisedAt f n) where
   unfolding recorded lentOf
   empty-here = ap number (promised one deliver ∙ step-of (start 1) one-formed deliver)
 
-  -- it does not refuse every step
-  pub call-accepts : ¬ ((w : List ℕ) (k : Step) → 0 < f .answers n w k .number)
-  call-accepts p = omega (arith, p one write, done-here)
+  -- it does not refuse every step of every good world
+  pub call-accepts : ¬ ((w : List ℕ) (k : Step) → goodBytes w ≡ true → 0 < f .answers n w k .number)
+  call-accepts p = omega (arith, p one write one-good, done-here)
 
-  -- it has not one answer for everything, not even for the steps of good worlds
+  -- it has not one answer for them
   pub call-varies : (a : Answer) → ¬ ((w : List ℕ) (k : Step) → goodBytes w ≡ true → f .answers n w k ≡ a)
   call-varies a p =
       let same : f .answers n one write .number ≡ f .answers n one deliver .number = ap (λ (x : Answer). x .number) (p one write one-good ∙ sym (p one deliver one-good)) in
       omega (arith, same, done-here, empty-here)
 
-  -- it does not leave every buffer as it was
-  pub call-works : ¬ ((w : List ℕ) (k : Step) → f .leaves n w k ≡ w)
+  -- it does not leave every good world as it was
+  pub call-works : ¬ ((w : List ℕ) (k : Step) → goodBytes w ≡ true → f .leaves n w k ≡ w)
   unfolding recorded lentOf
-  call-works p = write-moves (sym (p one write) ∙ ap buffer (promised one write ∙ step-of (start 1) one-formed write))
+  call-works p = write-moves (sym (p one write one-good) ∙ ap buffer (promised one write ∙ step-of (start 1) one-formed write))
 
--- ---- the four wrong programs
+-- ---- the four wrong programs, of which it is enough that they are wrong on good worlds
 
 -- "refusing everything"
-pub refusing-everything : (f : Program) → Promised f → ¬ ((n : ℕ) (w : List ℕ) (k : Step) → 0 < f .answers n w k .number)
+pub refusing-everything : (f : Program) → Promised f → ¬ ((n : ℕ) (w : List ℕ) (k : Step) → goodBytes w ≡ true → 0 < f .answers n w k .number)
 refusing-everything f promised p = call-accepts f 0 (promised 0) (p 0)
 
 -- "one constant reply"
-pub one-constant-reply : (f : Program) → Promised f → (a : Answer) → ¬ ((n : ℕ) (w : List ℕ) (k : Step) → f .answers n w k ≡ a)
-one-constant-reply f promised a p = call-varies f 0 (promised 0) a (λ w k good. p 0 w k)
+pub one-constant-reply : (f : Program) → Promised f → (a : Answer) → ¬ ((n : ℕ) (w : List ℕ) (k : Step) → goodBytes w ≡ true → f .answers n w k ≡ a)
+one-constant-reply f promised a p = call-varies f 0 (promised 0) a (p 0)
 
 -- "no work at all"
-pub no-work-at-all : (f : Program) → Promised f → ¬ ((n : ℕ) (w : List ℕ) (k : Step) → f .leaves n w k ≡ w)
+pub no-work-at-all : (f : Program) → Promised f → ¬ ((n : ℕ) (w : List ℕ) (k : Step) → goodBytes w ≡ true → f .leaves n w k ≡ w)
 no-work-at-all f promised p = call-works f 0 (promised 0) (p 0)
 
 -- "real work on the first step with show afterwards": whatever it does at the first call, afterwards it refuses, or has one reply, or does no work
-pub show-by-refusing : (f : Program) → Promised f → ¬ ((n : ℕ) (w : List ℕ) (k : Step) → 0 < f .answers (suc n) w k .number)
+pub show-by-refusing : (f : Program) → Promised f → ¬ ((n : ℕ) (w : List ℕ) (k : Step) → goodBytes w ≡ true → 0 < f .answers (suc n) w k .number)
 show-by-refusing f promised p = call-accepts f 1 (promised 1) (p 0)
 
-pub show-by-one-reply : (f : Program) → Promised f → (a : Answer) → ¬ ((n : ℕ) (w : List ℕ) (k : Step) → f .answers (suc n) w k ≡ a)
-show-by-one-reply f promised a p = call-varies f 1 (promised 1) a (λ w k good. p 0 w k)
+pub show-by-one-reply : (f : Program) → Promised f → (a : Answer) → ¬ ((n : ℕ) (w : List ℕ) (k : Step) → goodBytes w ≡ true → f .answers (suc n) w k ≡ a)
+show-by-one-reply f promised a p = call-varies f 1 (promised 1) a (p 0)
 
-pub show-without-work : (f : Program) → Promised f → ¬ ((n : ℕ) (w : List ℕ) (k : Step) → f .leaves (suc n) w k ≡ w)
+pub show-without-work : (f : Program) → Promised f → ¬ ((n : ℕ) (w : List ℕ) (k : Step) → goodBytes w ≡ true → f .leaves (suc n) w k ≡ w)
 show-without-work f promised p = call-works f 1 (promised 1) (p 0)
 
 -- ---- "the rules bind each step": a run
@@ -155,13 +155,13 @@ each-step f promised n W good (k ∷ ks) =
 abbrev first : World → ℕ
 first w = placeRow (getD (w .places) 0 free) .kind
 
-pub show-in-a-run : (f : Program) → PromisedAt f 0 → ((n : ℕ) (w : List ℕ) (k : Step) → f .leaves (suc n) w k ≡ w)
+pub show-in-a-run : (f : Program) → PromisedAt f 0 → ((n : ℕ) (w : List ℕ) (k : Step) → goodBytes w ≡ true → f .leaves (suc n) w k ≡ w)
     → ¬ (ran f 0 one (write ∷ deliver ∷ []) ≡ image (lastWorld (start 1) (write ∷ deliver ∷ [])))
 unfolding ran recorded
 show-in-a-run f promised idle e =
-    let stays : image (lastWorld (start 1) (write ∷ [])) ≡ image (lastWorld (start 1) (write ∷ deliver ∷ [])) =
-    sym (idle 0 (f .leaves 0 one write) deliver ∙ leaves-is f 0 promised (start 1) one-formed write) ∙ e
-    in
+    let is = leaves-is f 0 promised (start 1) one-formed write in
+    let good : goodBytes (f .leaves 0 one write) ≡ true = rw is (image-good (after (start 1) (stepped (start 1) write)) (step-keeps (start 1) write one-formed)) in
+    let stays : image (lastWorld (start 1) (write ∷ [])) ≡ image (lastWorld (start 1) (write ∷ deliver ∷ [])) = sym (idle 0 (f .leaves 0 one write) deliver good ∙ is) ∙ e in
     differ first (image-injective (lastWorld (start 1) (write ∷ [])) (lastWorld (start 1) (write ∷ deliver ∷ [])) (run-keeps (start 1) (write ∷ []) one-formed) (run-keeps (start 1) (write ∷ deliver ∷ []) one-formed) stays) tt
 
 -- ---- "Invented totals are ruled out by the tie to the steps taken."
@@ -232,7 +232,8 @@ invented-totals sent delivered dropped waiting p =
     let some : endOf sent delivered dropped waiting ≡ endOf 1 0 0 1 = ap (drop 22) (p 1 (write ∷ [])) in
     differ (entry 4) (sym none ∙ some) tt
 
--- the same of `world::run::rehearse`: a program that lays the record of every sheet with these four totals does not keep its promise
+-- the same of `world::run::rehearse`: a program that lays the record of every sheet with these four totals does not keep its promise, though it may do as it likes
+-- with a world of another length
 module _ (sent delivered dropped waiting : ℕ) (small : Small sent delivered dropped waiting) where
   laid-counted : (b : List ℕ) (ks : List Step) → sheetIn b ≡ sheet 1 ks → length ks ≤ 8000
       → ((out : List ℕ) → laid out 0 (withTotals 1 ks sent delivered dropped waiting) ≡ recordLeft b one out) → sent ≡ sum sentBy (outcomes (start 1) ks)
@@ -243,9 +244,9 @@ module _ (sent delivered dropped waiting : ℕ) (small : Small sent delivered dr
       let whole : laid out 0 made ≡ made ++ drop (length made) out = laid-front out made ∙ ap (λ (l : List ℕ). l ++ drop (length made) out) (take-all (length out) made (omega (arith, long))) in
       rehearse-tied 1 ks (omega arith) (omega arith) few b one out (length-image (start 1)) is (omega (arith, long)) sent delivered dropped waiting (drop (length made) out) small (sym whole ∙ p out) .0
 
-  pub rehearse-invented : ¬ ((b world out : List ℕ) (mask : ℕ) (ks : List Step) → sheetIn b ≡ sheet mask ks → laid out 0 (withTotals mask ks sent delivered dropped waiting) ≡ recordLeft b world out)
+  pub rehearse-invented : ¬ ((b world out : List ℕ) (mask : ℕ) (ks : List Step) → length world ≡ 65536 → sheetIn b ≡ sheet mask ks → laid out 0 (withTotals mask ks sent delivered dropped waiting) ≡ recordLeft b world out)
   unfolding recorded sheetIn stepsIn allZerosIn numberAt
   rehearse-invented p =
-      let none : sent ≡ 0 = laid-counted blank [] refl (omega arith) (λ out. p blank one out 1 [] refl) in
-      let some : sent ≡ 1 = laid-counted written (write ∷ []) refl (omega arith) (λ out. p written one out 1 (write ∷ []) refl) in
+      let none : sent ≡ 0 = laid-counted blank [] refl (omega arith) (λ out. p blank one out 1 [] (length-image (start 1)) refl) in
+      let some : sent ≡ 1 = laid-counted written (write ∷ []) refl (omega arith) (λ out. p written one out 1 (write ∷ []) (length-image (start 1)) refl) in
       omega (arith, none, some)
