@@ -1,16 +1,17 @@
 -- Demand 3 holds of document 01's worked example: the statement has an instance with a write and a read in it. Assumes nothing.
 use mathlib.Core.Path.{_≡_, refl, ap}
 use mathlib.Core.Logic.{_⊎_, inl, inr}
-use mathlib.Core.Bool.{true}
+use mathlib.Core.Bool.{true, true≢false}
 use mathlib.Core.List.{List, [], _∷_, List·Memᴰ·head, List·Memᴰ·tail, List·Memᴰ·not-nil, List·Memᴰ·cases-cons, List·Memᴰ·eq-of-singleton}
-use Prim.Native.Nat.{ℕ}
+use Prim.Native.Nat.{ℕ, _<_}
 use native.Mathlib.Omega.{arith}
+use lib.Dec.{lit<}
 use Rattle.views.proofs.Truth.{contrary}
 use Rattle.rules.specs.Sets.{within}
 use Rattle.rules.specs.Stamps.{Pair, sign, compared, greater}
 use Rattle.rules.specs.Steps.{Step}
 use Rattle.rules.specs.History.{reading, writing, Operation, endedIn, toldIn, operations, unfinishedIn, unfinished, openedIn, openViews}
-use Rattle.rules.specs.Demand3.{ended, _∈_, Belongs, returned, latest, Next, first, next, Demand3}
+use Rattle.rules.specs.Demand3.{ended, _∈_, isRead, Belongs, returned, latest, Next, first, next, Demand3}
 use Rattle.rules.specs.Examples.{recorded}
 
 abbrev step : ℕ → ℕ → ℕ → Step
@@ -68,6 +69,7 @@ last =
       once = λ m. differ (List·Memᴰ·eq-of-singleton m);
       timely = λ p m b. let e : p .begun ≡ 1 = ap (λ (o : Operation). o .begun) (List·Memᴰ·eq-of-singleton m) in omega (arith, b .1);
       returns = λ r. refl;
+      wrote = λ x e. absurd (true≢false (ap isRead e));
       rises = λ p m. ap (λ (o : Operation). greater (o .pair .stamp) (pair .stamp)) (List·Memᴰ·eq-of-singleton m);
     }
 
@@ -78,6 +80,7 @@ only =
       once = λ m. List·Memᴰ·not-nil m;
       timely = λ p m b. List·Memᴰ·not-nil m;
       returns = λ r. absurd (contrary r refl);
+      wrote = λ x e. cc;
       rises = λ p m. absurd (List·Memᴰ·not-nil m);
     }
 
@@ -85,11 +88,16 @@ pub demand3-worked : Demand3 1 steps
 demand3-worked =
     record {
       nested = λ u v mu mv. inl (both-one u v (one-view u mu) (one-view v mv));
+      lasted = λ o m. lasted o (List·Memᴰ·cases-cons (rw ops at m));
       order = had ∷ wrote ∷ [];
       complete = complete;
       sound = λ o m. ended (back o (List·Memᴰ·cases-cons m));
       ordered = next last (next only first);
     }
   where
+    lasted : (o : Operation) → (o ≡ wrote) ⊎ (o ∈ (had ∷ [])) → (0 < o .begun) × (o .begun < o .ended)
+    lasted o (inl e) = rw e (lit< tt, lit< tt)
+    lasted o (inr h) = rw (List·Memᴰ·eq-of-singleton h) (lit< tt, lit< tt)
+
     both-one : (u v : ℕ) → u ≡ 1 → v ≡ 1 → within u v ≡ true
     both-one u v eu ev = rw (eu, ev)

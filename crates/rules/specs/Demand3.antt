@@ -42,6 +42,8 @@ pub record Next (o : Operation) (r : List Operation) : Type 0 where
   pub once : o ∈ r → ⊥
   pub timely : (p : Operation) → p ∈ r → Before o p → ⊥
   pub returns : isRead (o .task) ≡ true → latest r ≡ o .pair
+  -- a write ends with the value that it was told
+  pub wrote : (x : ℕ) → o .task ≡ writing x → o .pair .value ≡ x
   pub rises : (p : Operation) → p ∈ r → greater (p .pair .stamp) (o .pair .stamp) ≡ false
 
 -- an order, newest first
@@ -51,6 +53,8 @@ pub data Ordered : List Operation → Type 0 where
 
 pub record Demand3 (mask : ℕ) (ks : List Step) : Type 0 where
   pub nested : (u v : ℕ) → u ∈ openViews mask ks → v ∈ openViews mask ks → (within u v ≡ true) ⊎ (within v u ≡ true)
+  -- what ended had begun in a step before
+  pub lasted : (o : Operation) → o ∈ operations mask ks → (0 < o .begun) × (o .begun < o .ended)
   pub order : List Operation
   pub complete : (o : Operation) → Belongs mask ks o → o ∈ order
   pub sound : (o : Operation) → o ∈ order → Belongs mask ks o

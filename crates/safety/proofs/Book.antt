@@ -36,6 +36,9 @@ pub record Book (start : ℕ) (l : Log) (i : ℕ) (ts : List Told) (ops : List O
   pub ends : Times
   pub dates : Dates l i begins ends
   pub late : 0 < i
+  -- steps are numbered from 1, and what ended had begun in a step before
+  pub first : (d t : ℕ) (a : Task) → l ∋ begin d t a → 0 < begins d t
+  pub lasted : (p : Operation) → p ∈ ops → (0 < p .begun) × (p .begun < p .ended)
   pub four : length ts ≡ 4
   -- an operation that has not ended is the last that its desk was told
   pub current : (n t : ℕ) (a : Task) → l ∋ begin n t a → (Done l n t → ⊥) → toldAt ts n ≡ record { task = a; begun = begins n t }
@@ -49,6 +52,8 @@ book-none start = record {
   ends = λ d t. 0;
   dates = dates-none;
   late = omega arith;
+  first = λ d t a m. absurd (List·Memᴰ·not-nil m);
+  lasted = λ p m. absurd (List·Memᴰ·not-nil m);
   four = refl;
   current = λ n t a m. absurd (List·Memᴰ·not-nil m);
   listed = λ o m. absurd (List·Memᴰ·not-nil m);
@@ -81,6 +86,8 @@ module _ {start i : ℕ} {ts : List Told} {ops : List Operation} {vs : List ℕ}
     ends = b .ends;
     dates = dates-on (b .dates);
     late = omega arith;
+    first = b .first;
+    lasted = b .lasted;
     four = b .four;
     current = b .current;
     listed = b .listed;
@@ -96,6 +103,8 @@ module _ {start i : ℕ} {ts : List Told} {ops : List Operation} {vs : List ℕ}
     ends = b .ends;
     dates = dates-plain s (b .dates);
     late = b .late;
+    first = λ d t a h. b .first d t a (old-begin s h);
+    lasted = b .lasted;
     four = b .four;
     current = λ n t a h u. b .current n t a (old-begin s h) (λ d. u (d .0, since-has s (d .1), d .2, d .3));
     listed = λ o h. b .listed o (old-finish s h);
@@ -110,6 +119,8 @@ module _ {start i : ℕ} {ts : List Told} {ops : List Operation} {vs : List ℕ}
     ends = b .ends;
     dates = b .dates;
     late = b .late;
+    first = b .first;
+    lasted = b .lasted;
     four = b .four;
     current = b .current;
     listed = b .listed;
@@ -126,6 +137,9 @@ module _ {start i : ℕ} {ts : List Told} {ops : List Operation} {vs : List ℕ}
     ends = b .ends;
     dates = dates-begin (b .dates) n s x fresh;
     late = omega arith;
+    first = λ d t a h. ⊎-elim (λ c. omega (arith, noted-here (b .begins) n s i (same-begin c .0) (same-begin c .1), b .late))
+        (λ k. omega (arith, begun-before (b .dates) n s x fresh d t a k, b .first d t a k)) (List·Memᴰ·cases-cons h);
+    lasted = b .lasted;
     four = length-set ts n _ ∙ b .four;
     current = λ m t a h u. current m t a (List·Memᴰ·cases-cons h) u (ℕ-discrete m n);
     listed = λ o h. let k = past-kind (omega arith) h in Memᴰ·cast (same o k) (b .listed o k);
@@ -138,6 +152,9 @@ module _ {start i : ℕ} {ts : List Told} {ops : List Operation} {vs : List ℕ}
 
       fresh : (t : ℕ) (a : Task) → l ∋ begin n t a → t < s
       fresh t a h = justified S now .fresh t a h
+
+      same-begin : {d t : ℕ} {a : Task} → begin d t a ≡ begin n s x → (d ≡ n) × (t ≡ s)
+      same-begin c = (cc, cc)
 
       -- what ended before keeps its date of begin
       same : (o : Op) → l ∋ finish o → told (noted (b .begins) n s i) (b .ends) o ≡ told (b .begins) (b .ends) o
@@ -168,6 +185,8 @@ module _ {start i : ℕ} {ts : List Told} {ops : List Operation} {vs : List ℕ}
     ends = noted (b .ends) (o .desk) (o .try) i;
     dates = dates-finish (b .dates) o (b .late);
     late = omega arith;
+    first = λ d t a h. b .first d t a (past-kind (omega arith) h);
+    lasted = λ q h. ⊎-elim (b .lasted q) (λ k. subst (λ (x : Operation). (0 < x .begun) × (x .begun < x .ended)) (sym (List·Memᴰ·eq-of-singleton k)) lasted) (List·Memᴰ·append-cases ops h);
     four = b .four;
     current = λ n t a h u. b .current n t a (past-kind (omega arith) h) (λ d. u (done-more d));
     listed = λ q h. listed q (List·Memᴰ·cases-cons h);
@@ -192,11 +211,18 @@ module _ {start i : ℕ} {ts : List Told} {ops : List Operation} {vs : List ℕ}
           let e = noted-other (b .ends) (o .desk) (o .try) i (q .desk) (q .try) (λ x y. open-still (q, h, x, y)) in
           λ j. record { desk = q .desk; task = q .task; begun = b .begins (q .desk) (q .try); ended = e j; pair = pairOf (q .stamp) (q .value) }
 
+      begun : l ∋ begin (o .desk) (o .try) (o .task)
+      begun = let w = why before settled in past-has (back (w .past)) (w .is .begun)
+
+      last : toldAt ts (o .desk) ≡ record { task = o .task; begun = b .begins (o .desk) (o .try) }
+      last = b .current (o .desk) (o .try) (o .task) begun open-still
+
+      lasted : (0 < toldAt ts (o .desk) .begun) × (toldAt ts (o .desk) .begun < i)
+      lasted = rw last (b .first (o .desk) (o .try) (o .task) begun, b .dates .began (o .desk) (o .try) (o .task) begun)
+
       this : told (b .begins) (noted (b .ends) (o .desk) (o .try) i) o ≡ operation ts (o .desk) i p
       this =
-          let w = why before settled in
-          let c : toldAt ts (o .desk) ≡ record { task = o .task; begun = b .begins (o .desk) (o .try) } =
-          b .current (o .desk) (o .try) (o .task) (past-has (back (w .past)) (w .is .begun)) open-still in
+          let c = last in
           let e = noted-here (b .ends) (o .desk) (o .try) i {e = o .desk} {u = o .try} refl refl in
           let f : pairOf (o .stamp) (o .value) ≡ p = (λ j. pairOf (es j) (ev j)) ∙ pair-back p small in
           λ j. record { desk = o .desk; task = sym c j .task; begun = sym c j .begun; ended = e j; pair = f j }

@@ -15,7 +15,7 @@ use Rattle.safety.proofs.Sequences.{Comparable, same, inner, outer}
 use Rattle.safety.proofs.Numbers.{num, stampOf, pairOf, stamps-rise}
 use Rattle.safety.proofs.Log.{Task, reading, writing, Op, Log, _∋_, begin, settle}
 use Rattle.safety.proofs.Past.{back, past-has, why}
-use Rattle.safety.proofs.Operations.{settle-once}
+use Rattle.safety.proofs.Operations.{settle-once, write-value}
 use Rattle.safety.proofs.Order.{Ops, _contains_, Counts, ended, returned, pick, latest as last-write, Next as NextInLog, Lined, lined-nil, lined-cons, Descending, desc-cons}
 use Rattle.safety.proofs.Static.{demand3}
 use Rattle.safety.proofs.Book.{finish-begun}
@@ -109,6 +109,7 @@ module _ {old : Log} {mask i : ℕ} {w : World} {ts : List Told} {ops : List Ope
     once = λ m. let k = Memᴰ·of-map name r m in N .once (Memᴰ·cast (name-once s (all (k .0) (k .1)) (sym (k .2))) (k .1));
     timely = λ p m b. let k = Memᴰ·of-map name r m in timely (k .0) (k .1) (b .0) (subst (λ (x : Operation). R .book .ends (o .desk) (o .try) < x .begun) (sym (k .2)) (b .1));
     returns = λ e. latest-named r ∙ ap (λ (x : ℕ × ℕ). pairOf (x .0) (x .1)) (N .returns (read-task (o .task) e));
+    wrote = λ x e. write-value (R .sound) s e;
     rises = λ p m. let k = Memᴰ·of-map name r m in
         subst (λ (x : Operation). greater (x .pair .stamp) (stampOf (o .stamp)) ≡ false) (k .2) (stamps-rise (k .0 .stamp) (o .stamp) (low (k .0) (k .1)));
   }
