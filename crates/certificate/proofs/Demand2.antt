@@ -5,6 +5,7 @@ use mathlib.Core.Bool.{true}
 use mathlib.Core.List.{List, [], _∷_, _++_, map, append-assoc}
 use Prim.Native.Nat.{ℕ, suc, _+_, _≤_, _<_}
 use native.Mathlib.Omega.{arith}
+use lib.Dec.{lit<, lit≤}
 use lib.ListN.{length, getD, drop, replicate, length-replicate}
 use lib.Seq.{take-all, drop-append-seam}
 use Rattle.rows.specs.Bytes.{numberAt}
@@ -19,6 +20,7 @@ use Rattle.rules.specs.Sheets.{stepsIn, allZerosIn, sheet, sheetIn}
 use Rattle.rules.specs.Runs.{rehearsed, outcomes, lastWorld, sentBy, deliveredBy, droppedBy, sum, answer, fields, stepLines, printed, startOf, endOf}
 use Rattle.rules.specs.Examples.{recorded}
 use Rattle.rules.proofs.Kept.{good-facts, step-keeps, run-keeps, always-good}
+use Rattle.rules.proofs.Starts.{start-good}
 use Rattle.rules.proofs.Counts.{sent-is-sum}
 use Rattle.rules.proofs.ImageWidths.{length-image}
 use Rattle.rules.proofs.ImageWorld.{image-good, image-injective}
@@ -95,15 +97,50 @@ one-constant-reply f promised a p = call-varies f 0 (promised 0) a (p 0)
 pub no-work-at-all : (f : Program) → Promised f → ¬ ((n : ℕ) (w : List ℕ) (k : Step) → goodBytes w ≡ true → f .leaves n w k ≡ w)
 no-work-at-all f promised p = call-works f 0 (promised 0) (p 0)
 
--- "real work on the first step with show afterwards": whatever it does at the first call, afterwards it refuses, or has one reply, or does no work
-pub show-by-refusing : (f : Program) → Promised f → ¬ ((n : ℕ) (w : List ℕ) (k : Step) → goodBytes w ≡ true → 0 < f .answers (suc n) w k .number)
-show-by-refusing f promised p = call-accepts f 1 (promised 1) (p 0)
+-- "real work on the first step with show afterwards": whatever it does at the first call, and in worlds that are a start, afterwards it refuses, or has one
+-- reply, or does no work. (A program that remembers nothing may still know a start when it is shown one.)
+abbrev pub Fresh : List ℕ → Type 0
+Fresh w = (mask : ℕ) × (0 < mask) × (mask < 256) × (w ≡ image (start mask))
 
-pub show-by-one-reply : (f : Program) → Promised f → (a : Answer) → ¬ ((n : ℕ) (w : List ℕ) (k : Step) → goodBytes w ≡ true → f .answers (suc n) w k ≡ a)
-show-by-one-reply f promised a p = call-varies f 1 (promised 1) a (p 0)
+-- a world that is no start: one step after the start of relay 0, with the Get of desk 0 in place 0
+abbrev used : World
+used = after (start 1) (stepped (start 1) write)
 
-pub show-without-work : (f : Program) → Promised f → ¬ ((n : ℕ) (w : List ℕ) (k : Step) → goodBytes w ≡ true → f .leaves (suc n) w k ≡ w)
-show-without-work f promised p = call-works f 1 (promised 1) (p 0)
+used-formed : wellFormed used ≡ true
+used-formed = step-keeps (start 1) write one-formed
+
+used-good : goodBytes (image used) ≡ true
+used-good = image-good used used-formed
+
+abbrev first : World → ℕ
+first w = placeRow (getD (w .places) 0 free) .kind
+
+used-not-fresh : Fresh (image used) → ⊥
+unfolding recorded start
+used-not-fresh h =
+    let z : _≡_ {A = ℕ} 7 0 = ap first (image-injective used (start (h .0)) used-formed (start-good (h .0) (h .1) (h .2)) (h .3)) in
+    omega arith
+
+-- DELIVER 1
+abbrev next : Step
+next = record { kind = 6; id = 1; value = 0 }
+
+module _ (f : Program) (promised : Promised f) where
+  used-done : f .answers 1 (image used) deliver .number ≡ 0
+  unfolding recorded lentOf
+  used-done = ap number (promised 1 (image used) deliver ∙ step-of used used-formed deliver)
+
+  used-empty : f .answers 1 (image used) next .number ≡ 3
+  unfolding recorded lentOf
+  used-empty = ap number (promised 1 (image used) next ∙ step-of used used-formed next)
+
+  pub show-by-refusing : ¬ ((n : ℕ) (w : List ℕ) (k : Step) → goodBytes w ≡ true → ¬ Fresh w → 0 < f .answers (suc n) w k .number)
+  show-by-refusing p = omega (arith, p 0 (image used) deliver used-good used-not-fresh, used-done)
+
+  pub show-by-one-reply : (a : Answer) → ¬ ((n : ℕ) (w : List ℕ) (k : Step) → goodBytes w ≡ true → ¬ Fresh w → f .answers (suc n) w k ≡ a)
+  show-by-one-reply a p =
+      let same = ap (λ (x : Answer). x .number) (p 0 (image used) deliver used-good used-not-fresh ∙ sym (p 0 (image used) next used-good used-not-fresh)) in
+      omega (arith, same, used-done, used-empty)
 
 -- ---- "the rules bind each step": a run
 
@@ -151,18 +188,23 @@ each-step f promised n W good (k ∷ ks) =
     let rest = each-step f promised (suc n) (after W (stepped W k)) (step-keeps W k good) ks in
     (rw next (rest .0), rw (next, answers-is f n (promised n) W good k, rest .1))
 
--- so real work at the first call and none afterwards shows in a run of two steps: WRITE 0 77, DELIVER 0
-abbrev first : World → ℕ
-first w = placeRow (getD (w .places) 0 free) .kind
+-- DELIVER 0 of the Get changes that world: what stands in place 0 is the answer
+delivered-moves : image used ≡ image (after used (stepped used deliver)) → ⊥
+unfolding recorded
+delivered-moves e = differ first (image-injective used (after used (stepped used deliver)) used-formed (step-keeps used deliver used-formed) e) tt
 
-pub show-in-a-run : (f : Program) → PromisedAt f 0 → ((n : ℕ) (w : List ℕ) (k : Step) → goodBytes w ≡ true → f .leaves (suc n) w k ≡ w)
+pub show-without-work : (f : Program) → Promised f → ¬ ((n : ℕ) (w : List ℕ) (k : Step) → goodBytes w ≡ true → ¬ Fresh w → f .leaves (suc n) w k ≡ w)
+show-without-work f promised p = delivered-moves (sym (p 0 (image used) deliver used-good used-not-fresh) ∙ leaves-is f 1 (promised 1) used used-formed deliver)
+
+-- so real work at the first call and none afterwards shows in a run of two steps: WRITE 0 77, DELIVER 0
+pub show-in-a-run : (f : Program) → PromisedAt f 0 → ((n : ℕ) (w : List ℕ) (k : Step) → goodBytes w ≡ true → ¬ Fresh w → f .leaves (suc n) w k ≡ w)
     → ¬ (ran f 0 one (write ∷ deliver ∷ []) ≡ image (lastWorld (start 1) (write ∷ deliver ∷ [])))
-unfolding ran recorded
+unfolding ran lastWorld
 show-in-a-run f promised idle e =
     let is = leaves-is f 0 promised (start 1) one-formed write in
-    let good : goodBytes (f .leaves 0 one write) ≡ true = rw is (image-good (after (start 1) (stepped (start 1) write)) (step-keeps (start 1) write one-formed)) in
-    let stays : image (lastWorld (start 1) (write ∷ [])) ≡ image (lastWorld (start 1) (write ∷ deliver ∷ [])) = sym (idle 0 (f .leaves 0 one write) deliver good ∙ is) ∙ e in
-    differ first (image-injective (lastWorld (start 1) (write ∷ [])) (lastWorld (start 1) (write ∷ deliver ∷ [])) (run-keeps (start 1) (write ∷ []) one-formed) (run-keeps (start 1) (write ∷ deliver ∷ []) one-formed) stays) tt
+    let good : goodBytes (f .leaves 0 one write) ≡ true = rw is used-good in
+    let other : ¬ Fresh (f .leaves 0 one write) = rw is used-not-fresh in
+    delivered-moves (sym (idle 0 (f .leaves 0 one write) deliver good other ∙ is) ∙ e)
 
 -- ---- "Invented totals are ruled out by the tie to the steps taken."
 
@@ -225,11 +267,11 @@ module _ (mask : ℕ) (ks : List Step) (some : 0 < mask) (byte : mask < 256) (fe
       totals-tied sent delivered dropped waiting t (drop (length (printed mask ks)) out) small (same ∙ record-promised b world out mask ks long e fits)
 
 -- no four numbers are the totals of every run: not of a run without a step and of one with a WRITE
-pub invented-totals : (sent delivered dropped waiting : ℕ) → ¬ ((mask : ℕ) (ks : List Step) → withTotals mask ks sent delivered dropped waiting ≡ printed mask ks)
+pub invented-totals : (sent delivered dropped waiting : ℕ) → ¬ ((mask : ℕ) (ks : List Step) → 0 < mask → mask < 256 → length ks ≤ 8000 → withTotals mask ks sent delivered dropped waiting ≡ printed mask ks)
 unfolding recorded
 invented-totals sent delivered dropped waiting p =
-    let none : endOf sent delivered dropped waiting ≡ endOf 0 0 0 0 = ap (drop 8) (p 1 []) in
-    let some : endOf sent delivered dropped waiting ≡ endOf 1 0 0 1 = ap (drop 22) (p 1 (write ∷ [])) in
+    let none : endOf sent delivered dropped waiting ≡ endOf 0 0 0 0 = ap (drop 8) (p 1 [] (lit< tt) (lit< tt) (lit≤ tt)) in
+    let some : endOf sent delivered dropped waiting ≡ endOf 1 0 0 1 = ap (drop 22) (p 1 (write ∷ []) (lit< tt) (lit< tt) (lit≤ tt)) in
     differ (entry 4) (sym none ∙ some) tt
 
 -- the same of `world::run::rehearse`: a program that lays the record of every sheet with these four totals does not keep its promise, though it may do as it likes
