@@ -322,7 +322,7 @@ pub rows-put-u16-low-byte-first : ¬ ((s : List ℕ) (at x : ℕ) → placed s a
 unfolding placed splice bytesOf
 rows-put-u16-low-byte-first p = differ (entry 0) (p (0 ∷ 0 ∷ []) 0 1) tt
 
-pub rows-put-u16-what-fits : ¬ ((s : List ℕ) (at x : ℕ) → placed s at (x / 256 ∷ []) ≡ placed s at (be16 x))
+pub rows-put-u16-what-fits : ¬ ((s : List ℕ) (at x : ℕ) → (if leb (at + 2) (length s) then placed s at (be16 x) else placed s at (x / 256 ∷ [])) ≡ placed s at (be16 x))
 unfolding placed splice bytesOf
 rows-put-u16-what-fits p = differ (entry 0) (p (0 ∷ []) 0 256) tt
 
