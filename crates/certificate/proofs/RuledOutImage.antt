@@ -58,9 +58,9 @@ pub image-pair-at-the-next : ¬ ((s : List ℕ) (at : ℕ) → pairAt s (at + 1)
 unfolding numberAt pairAt
 image-pair-at-the-next p = differ value (p (0 ∷ 1 ∷ 2 ∷ 0 ∷ 0 ∷ 0 ∷ 77 ∷ []) 0) tt
 
-pub image-pair-at-low-half-only : ¬ ((s : List ℕ) (at : ℕ) → record { stamp = record { count = u16At s at; desk = getD s (at + 2) 0 }; value = u16At s (at + 3) } ≡ pairAt s at)
+pub image-pair-at-low-half-only : ¬ ((s : List ℕ) (at : ℕ) → record { stamp = record { count = u16At s at; desk = getD s (at + 2) 0 }; value = u16At s (at + 5) } ≡ pairAt s at)
 unfolding numberAt pairAt
-image-pair-at-low-half-only p = differ value (p (0 ∷ 1 ∷ 2 ∷ 0 ∷ 0 ∷ 0 ∷ 77 ∷ []) 0) tt
+image-pair-at-low-half-only p = differ value (p (0 ∷ 1 ∷ 2 ∷ 0 ∷ 1 ∷ 0 ∷ 77 ∷ []) 0) tt
 
 -- alive, entered and not active, of view 3, known view 7
 abbrev headRow : List ℕ
