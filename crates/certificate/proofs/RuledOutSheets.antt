@@ -1,14 +1,14 @@
 -- Wrong programs that the promises rule out: sheet and record. Assumes nothing.
 use mathlib.Core.Path.{_≡_}
-use mathlib.Core.Bool.{true, not, _||_}
+use mathlib.Core.Bool.{true, false, not, _&&_}
 use mathlib.Core.List.{List, [], _∷_, _++_}
 use Prim.Native.Nat.{ℕ, _+_, _-_, _*_, _/_, _%_}
-use lib.Dec.{leb, ltb}
-use lib.ListN.{length, getD, take, drop, replicate}
+use lib.Dec.{eqb, leb, ltb}
+use lib.ListN.{length, getD, set, take, drop, replicate}
 use denote.Ref.{RefT, now}
 use Rattle.rows.specs.Bytes.{numberAt, run, zeros}
 use Rattle.rules.specs.Sets.{if_then_else_}
-use Rattle.rules.specs.Sheets.{mark, marked, stepIn, stepsOf, allZerosIn, stepsBytes, sheetBytes, written}
+use Rattle.rules.specs.Sheets.{mark, stepIn, stepsOf, allZerosIn, badSheet, stepsBytes, sheetBytes, written}
 use Rattle.rules.specs.Runs.{digits, decimal, line, start-word, bad-word, startOf, endOf, badOf}
 use Rattle.sheet.specs.Reading.{checkOf, stepAt, afterOf, takenAt}
 use Rattle.sheet.specs.Writing.{listed, numberOf, writtenOf, leftOf}
@@ -26,7 +26,8 @@ use Rattle.certificate.proofs.Differ.{differ, itself, truth, entry}
 abbrev isBad : Sheet → ℕ
 isBad s = truth (s .bad)
 
-pub sheet-check-mask-0-accepted : ¬ ((b : List ℕ) → record { bad = ltb (length b) 6 || not (marked b); mask = getD b 5 0; steps = stepsOf b } ≡ checkOf b)
+-- a sheet that would be good with mask 1
+pub sheet-check-mask-0-accepted : ¬ ((b : List ℕ) → (if eqb (getD b 5 0) 0 && not (badSheet (set b 5 1)) then record { bad = false; mask = 0; steps = stepsOf b } else checkOf b) ≡ checkOf b)
 unfolding allZerosIn checkOf
 sheet-check-mask-0-accepted p = differ isBad (p (mark ++ (0 ∷ []))) tt
 
@@ -78,12 +79,12 @@ pub sheet-write-left-cleared-past-the-sheet : ¬ ((buf : List ℕ) (mask : ℕ) 
 unfolding run zeros laid stepsBytes sheetBytes written listed leftOf
 sheet-write-left-cleared-past-the-sheet p = differ (entry 6) (p (replicate 7 9) 1 [] [] []) tt
 
--- a reader over bytes that stand somewhere, and the bytes of two steps
+-- a reader over bytes that stand somewhere, and the sheet of the two steps with mask 1
 abbrev reader : RefT (List ℕ) → ℕ → Reader
 reader bytes at = record { sheet = bytes; at = at }
 
 abbrev lent : RefT (List ℕ)
-lent = record { ptr = (0, 0); name = 0; now = steps }
+lent = record { ptr = (0, 0); name = 0; now = mark ++ (1 ∷ steps) }
 
 pub sheet-new-before-the-mark : ¬ ((sheet : RefT (List ℕ)) → (reader sheet 0 .sheet ≡ sheet) × (reader sheet 0 .at ≡ 6))
 sheet-new-before-the-mark p = differ itself (p lent .1) tt
@@ -91,21 +92,21 @@ sheet-new-before-the-mark p = differ itself (p lent .1) tt
 pub sheet-new-past-the-first-step : ¬ ((sheet : RefT (List ℕ)) → (reader sheet 14 .sheet ≡ sheet) × (reader sheet 14 .at ≡ 6))
 sheet-new-past-the-first-step p = differ itself (p lent .1) tt
 
-pub sheet-next-the-first-again : ¬ ((r : Reader) → stepAt (now (r .sheet)) 0 ≡ stepAt (now (r .sheet)) (r .at))
+pub sheet-next-the-first-again : ¬ ((r : Reader) → stepAt (now (r .sheet)) 6 ≡ stepAt (now (r .sheet)) (r .at))
 unfolding stepAt numberAt
-sheet-next-the-first-again p = differ found (p (reader lent 8)) tt
+sheet-next-the-first-again p = differ found (p (reader lent 14)) tt
 
 pub sheet-next-the-one-after : ¬ ((r : Reader) → stepAt (now (r .sheet)) (r .at + 8) ≡ stepAt (now (r .sheet)) (r .at))
 unfolding stepAt numberAt
-sheet-next-the-one-after p = differ found (p (reader lent 0)) tt
+sheet-next-the-one-after p = differ found (p (reader lent 6)) tt
 
 pub sheet-moved-not-at-all : ¬ ((r : Reader) → (r .sheet ≡ r .sheet) × (r .at ≡ afterOf (now (r .sheet)) (r .at)))
 unfolding afterOf
-sheet-moved-not-at-all p = differ itself (p (reader lent 0) .1) tt
+sheet-moved-not-at-all p = differ itself (p (reader lent 6) .1) tt
 
 pub sheet-moved-past-the-end : ¬ ((r : Reader) → (reader (r .sheet) (r .at + 8) .sheet ≡ r .sheet) × (reader (r .sheet) (r .at + 8) .at ≡ afterOf (now (r .sheet)) (r .at)))
 unfolding afterOf
-sheet-moved-past-the-end p = differ itself (p (reader lent 16) .1) tt
+sheet-moved-past-the-end p = differ itself (p (reader lent 22) .1) tt
 
 pub sheet-read-at-the-front-always : ¬ ((sheet : List ℕ) (at : ℕ) → takenAt sheet 0 ≡ takenAt sheet at)
 unfolding stepAt afterOf takenAt numberAt
