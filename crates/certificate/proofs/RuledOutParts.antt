@@ -3,7 +3,7 @@
 use mathlib.Core.Path.{_≡_}
 use mathlib.Core.Bool.{Bool, true, false, not}
 use mathlib.Core.List.{List, [], _∷_}
-use Prim.Native.Nat.{ℕ, _+_}
+use Prim.Native.Nat.{ℕ, _+_, _%_}
 use lib.Bits.{bitAnd}
 use lib.Count.{ones, onesIn}
 use lib.Dec.{eqb, leb}
@@ -109,8 +109,8 @@ messages-state-without-updates p = differ updates (p 1 3 pair 4) tt
 pub messages-get-of-the-next-try : ¬ ((tries c : ℕ) → rules.get (tries + 1) c ≡ rules.get tries c)
 messages-get-of-the-next-try p = differ tries (p 5 1) tt
 
-pub messages-get-of-no-try : ¬ ((tries c : ℕ) → rules.get 0 c ≡ rules.get tries c)
-messages-get-of-no-try p = differ tries (p 5 1) tt
+pub messages-get-exchanged : ¬ ((tries c : ℕ) → rules.get c tries ≡ rules.get tries c)
+messages-get-exchanged p = differ tries (p 5 1) tt
 
 pub messages-put-as-get : ¬ ((tries c : ℕ) (p : Pair) → rules.get tries c ≡ rules.put tries c p)
 messages-put-as-get p = differ kind (p 5 1 pair) tt
@@ -151,13 +151,13 @@ messages-plain-emptied p = differ (λ m. m .kind) (p unclean) tt
 abbrev receivers : rules.Sending → ℕ
 receivers s = s .receivers
 
-pub messages-no-sending-to-all : ¬ (rules.toMembers 255 (rules.ack 0) ≡ noSending)
-messages-no-sending-to-all p = differ receivers p tt
+pub messages-no-sending-of-a-view : ¬ (record { body = rules.view 0; receivers = 0 } ≡ noSending)
+messages-no-sending-of-a-view p = differ (λ (s : rules.Sending). kind (s .body)) p tt
 
 pub messages-no-sending-to-relay-0 : ¬ (rules.toOne 0 (rules.ack 0) ≡ noSending)
 messages-no-sending-to-relay-0 p = differ receivers p tt
 
-pub messages-to-members-who-left-too : ¬ ((v : ℕ) (body : Body) → record { body = bodyOf body; receivers = v } ≡ rules.toMembers v (bodyOf body))
+pub messages-to-members-who-left-too : ¬ ((v : ℕ) (body : Body) → record { body = bodyOf body; receivers = v % 256 } ≡ rules.toMembers v (bodyOf body))
 messages-to-members-who-left-too p = differ receivers (p 257 (blankOf 11)) tt
 
 pub messages-to-members-to-nobody : ¬ ((v : ℕ) (body : Body) → record { body = bodyOf body; receivers = 0 } ≡ rules.toMembers v (bodyOf body))
@@ -279,7 +279,7 @@ relay-join-asked-nothing-sent p = differ sentTo (p 1 (part false 0 1 0)) tt
 
 pub relay-leave-asked-by-anyone : ¬ ((s : ℕ) (p : Part) → planned noRelay (rules.sends (partOf p) (rules.toMembers (partOf p .view) (rules.request (joins (8 + s)) (partOf p .view)) ∷ [])) ≡ planned noRelay (relays.leaveAsked s (partOf p)))
 unfolding partOf relayOf memberOf relays.leaveAsked planned
-relay-leave-asked-by-anyone p = differ answer (p 1 (part true 1 1 0)) tt
+relay-leave-asked-by-anyone p = differ answer (p 1 (part false 0 1 0)) tt
 
 pub relay-leave-asked-as-a-join : ¬ ((s : ℕ) (p : Part) → planned noRelay (rules.sends (partOf p) (rules.toMembers (partOf p .view) (rules.request (joins s) (partOf p .view)) ∷ [])) ≡ planned noRelay (relays.leaveAsked s (partOf p)))
 unfolding partOf relayOf memberOf relays.leaveAsked planned
