@@ -3,12 +3,13 @@ use mathlib.Core.Path.{_≡_, refl, sym, ap, _∙_}
 use mathlib.Core.Bool.{Bool, true, false, not, _&&_}
 use mathlib.Core.List.{List, [], _∷_, _++_}
 use Prim.Native.Nat.{ℕ}
-use lib.Dec.{eqb}
+use lib.Dec.{eqb, ltb}
 use lib.ListN.{length, getD, drop, replicate}
-use Rattle.rows.specs.Bytes.{numberAt, splice, placed, bytesOf, cat}
+use Rattle.rows.specs.Bytes.{numberAt, splice, placed, bytesOf, run, cat, zeros}
 use Rattle.rules.specs.Sets.{if_then_else_}
 use Rattle.rules.specs.State.{World, noRelay, start}
 use Rattle.rules.specs.Sending.{waitingIn}
+use Rattle.rules.specs.WellFormed.{wellFormed}
 use Rattle.rules.specs.declared.Step.{Step}
 use Rattle.rules.specs.Steps.{after, stepped}
 use Rattle.rules.specs.Image.{image, goodBytes}
@@ -16,18 +17,18 @@ use Rattle.rules.specs.Lent.{Lent, lentStart, lentStep}
 use Rattle.rules.specs.Sheets.{mark, stepsOf, stepsIn, allZerosIn, badSheet, sheetIn}
 use Rattle.rules.specs.Runs.{outcomes, sentBy, deliveredBy, droppedBy, sum, fields, stepLines, lastWorld, rehearsed, startOf, endOf, badOf}
 use Rattle.rules.specs.Examples.{recorded}
-use Rattle.rules.proofs.Kept.{step-keeps}
+use Rattle.rules.proofs.Kept.{step-keeps, run-keeps}
 use Rattle.rules.proofs.ImageWidths.{length-image}
 use Rattle.rules.proofs.ImageWorld.{image-injective}
 use Rattle.record.specs.Lines.{laid}
 use Rattle.world.specs.Answer.{reportOf, lentOf}
-use Rattle.world.specs.Playing.{rehearseAnswer, worldLeft, recordLeft}
+use Rattle.world.specs.Playing.{fittedOf, rehearseAnswer, worldLeft, recordLeft}
 use Rattle.world.specs.declared.Answer.{Answer}
 use Rattle.world.specs.declared.Report.the-variants.{Nothing, WriteDone}
 use Rattle.world.specs.declared.run.Rehearsed.{Rehearsed}
 use Rattle.engine.specs.Told.{goodNumber, toldBytes, toldOf}
 use Rattle.certificate.proofs.Differ.{differ, itself, truth, entry}
-use Rattle.certificate.proofs.Worlds.{one, two, one-formed, two-formed, one-good, write, step-of, start-of, soiled, soiled-long, soiled-bad}
+use Rattle.certificate.proofs.Worlds.{one, two, one-formed, two-formed, one-good, write, deliver, step-of, start-of, soiled, soiled-long, soiled-bad}
 
 -- ---- good
 
@@ -67,6 +68,17 @@ world-step-refused-always p = differ number (p one write ∙ step-of (start 1) o
 pub world-step-nothing-changed : ¬ ((w : List ℕ) (k : Step) → lentOf (replies 0) w ≡ lentStep w k)
 unfolding recorded lentOf
 world-step-nothing-changed p = write-moves (buffer-of (p one write ∙ step-of (start 1) one-formed write))
+
+-- the world in which the next delivery ends a write
+abbrev ending : World
+ending = lastWorld (start 1) (write ∷ deliver ∷ deliver ∷ deliver ∷ [])
+
+ending-formed : wellFormed ending ≡ true
+ending-formed = run-keeps (start 1) (write ∷ deliver ∷ deliver ∷ deliver ∷ []) one-formed
+
+pub world-step-without-its-report : ¬ ((w : List ℕ) (k : Step) → lentOf (record { number = lentStep w k .answer; report = Nothing }) (lentStep w k .buffer) ≡ lentStep w k)
+unfolding recorded lentOf reportOf toldOf
+world-step-without-its-report p = differ (λ (l : Lent). entry 0 (toldOf l)) (p (image ending) deliver ∙ step-of ending ending-formed deliver) tt
 
 pub world-start-in-any-buffer : ¬ ((w : List ℕ) (mask : ℕ) → lentOf (replies 0) (image (start mask)) ≡ lentStart w mask)
 unfolding lentOf lentStart
@@ -108,9 +120,17 @@ printed-there : (sheet out : List ℕ) → recordLeft sheet one out ≡ laid out
 unfolding recordLeft
 printed-there sheet out = rw (length-image (start 1))
 
+answered-there : (sheet out : List ℕ) → rehearseAnswer sheet one out ≡ fittedOf (length out) (length (rehearsed sheet))
+unfolding rehearseAnswer
+answered-there sheet out = rw (length-image (start 1))
+
 -- a test of the world's length, where it is right
-long-enough : (a b : List ℕ) → (if eqb (length one) 65536 && true then a else b) ≡ a
-long-enough a b = rw (length-image (start 1))
+long-right : {A : Type 0} (a b : A) → (if eqb (length one) 65536 && true then a else b) ≡ a
+long-right a b = rw (length-image (start 1))
+
+pub world-rehearse-answer-done-without-room : ¬ ((sheet world out : List ℕ) → (if eqb (length world) 65536 && ltb (length out) (length (rehearsed sheet)) then record { answer = 0; length = length (rehearsed sheet) } else rehearseAnswer sheet world out) ≡ rehearseAnswer sheet world out)
+unfolding fittedOf sheetIn stepsIn allZerosIn recorded rehearsed
+world-rehearse-answer-done-without-room p = differ (λ (r : Rehearsed). r .answer) (sym (long-right _ _) ∙ p blank one [] ∙ answered-there blank []) tt
 
 pub world-rehearse-last-as-it-was : ¬ ((sheet world : List ℕ) → world ≡ worldLeft sheet world)
 world-rehearse-last-as-it-was p = starts-differ (p blank two ∙ left-there blank two (length-image (start 2)) refl)
@@ -140,12 +160,12 @@ numbered mask ks =
 pub world-rehearse-printed-numbers-from-0 : ¬ ((sheet world out : List ℕ) → (if eqb (length world) 65536 && not (badSheet sheet) then laid out 0 (numbered (getD sheet 5 0) (stepsIn (stepsOf sheet) (drop 6 sheet))) else recordLeft sheet world out) ≡ recordLeft sheet world out)
 unfolding laid sheetIn stepsIn allZerosIn recorded rehearsed numberAt
 world-rehearse-printed-numbers-from-0 p =
-    differ (entry 8) (sym (long-enough (laid (replicate 40 0) 0 (numbered 1 (write ∷ []))) (recordLeft written one (replicate 40 0))) ∙ p written one (replicate 40 0) ∙ printed-there written (replicate 40 0)) tt
+    differ (entry 8) (sym (long-right _ _) ∙ p written one (replicate 40 0) ∙ printed-there written (replicate 40 0)) tt
 
 pub world-rehearse-printed-invented-totals : ¬ ((sheet world out : List ℕ) → (if eqb (length world) 65536 && not (badSheet sheet) then laid out 0 (withTotals (getD sheet 5 0) (stepsIn (stepsOf sheet) (drop 6 sheet)) 0 0 0 0) else recordLeft sheet world out) ≡ recordLeft sheet world out)
 unfolding laid sheetIn stepsIn allZerosIn recorded rehearsed numberAt
 world-rehearse-printed-invented-totals p =
-    differ (entry 26) (sym (long-enough (laid (replicate 40 0) 0 (withTotals 1 (write ∷ []) 0 0 0 0)) (recordLeft written one (replicate 40 0))) ∙ p written one (replicate 40 0) ∙ printed-there written (replicate 40 0)) tt
+    differ (entry 26) (sym (long-right _ _) ∙ p written one (replicate 40 0) ∙ printed-there written (replicate 40 0)) tt
 
 -- ---- engine
 
@@ -160,6 +180,13 @@ pub engine-world-start-answer-done-always : ¬ ((w : List ℕ) (mask : ℕ) → 
 unfolding lentStart
 engine-world-start-answer-done-always p = differ itself (p [] 1) tt
 
+mask-0-there : lentStart one 0 .answer ≡ 2
+unfolding lentStart
+mask-0-there = rw (length-image (start 1))
+
+pub engine-world-start-answer-mask-0-accepted : ¬ ((w : List ℕ) (mask : ℕ) → (if eqb (length w) 65536 && eqb mask 0 then 0 else lentStart w mask .answer) ≡ lentStart w mask .answer)
+engine-world-start-answer-mask-0-accepted p = differ itself (sym (long-right _ _) ∙ p one 0 ∙ mask-0-there) tt
+
 pub engine-world-start-buffer-as-it-was : ¬ ((w : List ℕ) (mask : ℕ) → w ≡ lentStart w mask .buffer)
 engine-world-start-buffer-as-it-was p = starts-differ (p two 1 ∙ buffer-of (start-of two (length-image (start 2))))
 
@@ -171,6 +198,15 @@ pub engine-world-step-buffer-as-it-was : ¬ ((w : List ℕ) (kind id value : ℕ
 unfolding recorded
 engine-world-step-buffer-as-it-was p = write-moves (p one 5 0 77 ∙ buffer-of (step-of (start 1) one-formed write))
 
-pub engine-world-step-columns-as-they-were : ¬ ((w told : List ℕ) (kind id value : ℕ) → told ≡ placed told 0 (toldBytes (toldOf (lentStep w (record { kind = kind; id = id; value = value })))))
-unfolding goodBytes lentStep toldOf cat bytesOf toldBytes placed splice
-engine-world-step-columns-as-they-were p = differ (entry 0) (p [] (replicate 9 7) 5 0 77) tt
+-- nine bytes with the columns of a step laid over them
+abbrev toldAfter : Lent → List ℕ
+toldAfter l = placed (replicate 9 7) 0 (toldBytes (toldOf l))
+
+pub engine-world-step-columns-as-they-were : ¬ ((w told : List ℕ) (kind id value : ℕ) → (if goodBytes w then told else placed told 0 (toldBytes (toldOf (lentStep w (record { kind = kind; id = id; value = value }))))) ≡ placed told 0 (toldBytes (toldOf (lentStep w (record { kind = kind; id = id; value = value })))))
+unfolding recorded toldOf cat bytesOf toldBytes placed splice
+engine-world-step-columns-as-they-were p =
+    differ (entry 0) (sym (ap (λ (b : Bool). if b then replicate 9 7 else toldAfter (lentStep one write)) one-good) ∙ p one (replicate 9 7) 5 0 77 ∙ ap toldAfter (step-of (start 1) one-formed write)) tt
+
+pub engine-world-step-columns-zeros-always : ¬ ((w told : List ℕ) (kind id value : ℕ) → placed told 0 (zeros 9) ≡ placed told 0 (toldBytes (toldOf (lentStep w (record { kind = kind; id = id; value = value })))))
+unfolding recorded toldOf cat bytesOf run zeros toldBytes placed splice
+engine-world-step-columns-zeros-always p = differ (entry 0) (p (image ending) (replicate 9 7) 6 0 0 ∙ ap toldAfter (step-of ending ending-formed deliver)) tt
