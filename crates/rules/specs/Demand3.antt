@@ -1,6 +1,6 @@
 -- DEMAND 3, as a type over runs: of any two views that ever opened one holds every update of the other; and the operations that ended,
--- with the unfinished writes that some read returned, stand in one order in which each read returns the write before it, which agrees with
--- what had ended before what began, and along which stamps never fall. Assumes nothing.
+-- with the unfinished writes that some read returned, stand in one order in which each read returns the write before it and each write has the value
+-- that it was told, which agrees with what had ended before what began, and along which stamps never fall. Assumes nothing.
 use mathlib.Core.Path.{_≡_}
 use mathlib.Core.Logic.{_⊎_}
 use mathlib.Core.Bool.{Bool, true, false}
