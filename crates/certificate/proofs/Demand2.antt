@@ -19,7 +19,7 @@ use Rattle.rules.specs.Lent.{Lent, left, lentStep}
 use Rattle.rules.specs.Sheets.{stepsIn, allZerosIn, sheet, sheetIn}
 use Rattle.rules.specs.Runs.{rehearsed, outcomes, lastWorld, sentBy, deliveredBy, droppedBy, sum, answer, fields, stepLines, printed, startOf, endOf}
 use Rattle.rules.specs.Examples.{recorded}
-use Rattle.rules.proofs.Kept.{good-facts, step-keeps, run-keeps, always-good}
+use Rattle.rules.proofs.Kept.{good-facts, step-keeps, always-good}
 use Rattle.rules.proofs.Starts.{start-good}
 use Rattle.rules.proofs.Counts.{sent-is-sum}
 use Rattle.rules.proofs.ImageWidths.{length-image}

@@ -30,15 +30,18 @@ told begins ends o = record {
   pair = pairOf (o .stamp) (o .value);
 }
 
+-- steps are numbered from 1, and what ended had begun in a step before
+pub record Lasting (l : Log) (begins : Times) (ops : List Operation) : Type 0 where
+  pub first : (d t : ℕ) (a : Task) → l ∋ begin d t a → 0 < begins d t
+  pub lasted : (p : Operation) → p ∈ ops → (0 < p .begun) × (p .begun < p .ended)
+
 -- before the step numbered i: ts is what the desks were last told, ops are the operations that ended, vs the views that opened
 pub record Book (start : ℕ) (l : Log) (i : ℕ) (ts : List Told) (ops : List Operation) (vs : List ℕ) : Type 0 where
   pub begins : Times
   pub ends : Times
   pub dates : Dates l i begins ends
   pub late : 0 < i
-  -- steps are numbered from 1, and what ended had begun in a step before
-  pub first : (d t : ℕ) (a : Task) → l ∋ begin d t a → 0 < begins d t
-  pub lasted : (p : Operation) → p ∈ ops → (0 < p .begun) × (p .begun < p .ended)
+  pub lasting : Lasting l begins ops
   pub four : length ts ≡ 4
   -- an operation that has not ended is the last that its desk was told
   pub current : (n t : ℕ) (a : Task) → l ∋ begin n t a → (Done l n t → ⊥) → toldAt ts n ≡ record { task = a; begun = begins n t }
@@ -52,8 +55,7 @@ book-none start = record {
   ends = λ d t. 0;
   dates = dates-none;
   late = omega arith;
-  first = λ d t a m. absurd (List·Memᴰ·not-nil m);
-  lasted = λ p m. absurd (List·Memᴰ·not-nil m);
+  lasting = record { first = λ d t a m. absurd (List·Memᴰ·not-nil m); lasted = λ p m. absurd (List·Memᴰ·not-nil m) };
   four = refl;
   current = λ n t a m. absurd (List·Memᴰ·not-nil m);
   listed = λ o m. absurd (List·Memᴰ·not-nil m);
@@ -86,8 +88,7 @@ module _ {start i : ℕ} {ts : List Told} {ops : List Operation} {vs : List ℕ}
     ends = b .ends;
     dates = dates-on (b .dates);
     late = omega arith;
-    first = b .first;
-    lasted = b .lasted;
+    lasting = b .lasting;
     four = b .four;
     current = b .current;
     listed = b .listed;
@@ -103,8 +104,7 @@ module _ {start i : ℕ} {ts : List Told} {ops : List Operation} {vs : List ℕ}
     ends = b .ends;
     dates = dates-plain s (b .dates);
     late = b .late;
-    first = λ d t a h. b .first d t a (old-begin s h);
-    lasted = b .lasted;
+    lasting = record { first = λ d t a h. b .lasting .first d t a (old-begin s h); lasted = b .lasting .lasted };
     four = b .four;
     current = λ n t a h u. b .current n t a (old-begin s h) (λ d. u (d .0, since-has s (d .1), d .2, d .3));
     listed = λ o h. b .listed o (old-finish s h);
@@ -119,8 +119,7 @@ module _ {start i : ℕ} {ts : List Told} {ops : List Operation} {vs : List ℕ}
     ends = b .ends;
     dates = b .dates;
     late = b .late;
-    first = b .first;
-    lasted = b .lasted;
+    lasting = b .lasting;
     four = b .four;
     current = b .current;
     listed = b .listed;
@@ -137,9 +136,11 @@ module _ {start i : ℕ} {ts : List Told} {ops : List Operation} {vs : List ℕ}
     ends = b .ends;
     dates = dates-begin (b .dates) n s x fresh;
     late = omega arith;
-    first = λ d t a h. ⊎-elim (λ c. omega (arith, noted-here (b .begins) n s i (same-begin c .0) (same-begin c .1), b .late))
-        (λ k. omega (arith, begun-before (b .dates) n s x fresh d t a k, b .first d t a k)) (List·Memᴰ·cases-cons h);
-    lasted = b .lasted;
+    lasting = record {
+      first = λ d t a h. ⊎-elim (λ c. omega (arith, noted-here (b .begins) n s i (same-begin c .0) (same-begin c .1), b .late))
+          (λ k. omega (arith, begun-before (b .dates) n s x fresh d t a k, b .lasting .first d t a k)) (List·Memᴰ·cases-cons h);
+      lasted = b .lasting .lasted;
+    };
     four = length-set ts n _ ∙ b .four;
     current = λ m t a h u. current m t a (List·Memᴰ·cases-cons h) u (ℕ-discrete m n);
     listed = λ o h. let k = past-kind (omega arith) h in Memᴰ·cast (same o k) (b .listed o k);
@@ -185,8 +186,10 @@ module _ {start i : ℕ} {ts : List Told} {ops : List Operation} {vs : List ℕ}
     ends = noted (b .ends) (o .desk) (o .try) i;
     dates = dates-finish (b .dates) o (b .late);
     late = omega arith;
-    first = λ d t a h. b .first d t a (past-kind (omega arith) h);
-    lasted = λ q h. ⊎-elim (b .lasted q) (λ k. subst (λ (x : Operation). (0 < x .begun) × (x .begun < x .ended)) (sym (List·Memᴰ·eq-of-singleton k)) lasted) (List·Memᴰ·append-cases ops h);
+    lasting = record {
+      first = λ d t a h. b .lasting .first d t a (past-kind (omega arith) h);
+      lasted = λ q h. ⊎-elim (b .lasting .lasted q) (λ k. subst (λ (x : Operation). (0 < x .begun) × (x .begun < x .ended)) (sym (List·Memᴰ·eq-of-singleton k)) lasted) (List·Memᴰ·append-cases ops h);
+    };
     four = b .four;
     current = λ n t a h u. b .current n t a (past-kind (omega arith) h) (λ d. u (done-more d));
     listed = λ q h. listed q (List·Memᴰ·cases-cons h);
@@ -218,7 +221,7 @@ module _ {start i : ℕ} {ts : List Told} {ops : List Operation} {vs : List ℕ}
       last = b .current (o .desk) (o .try) (o .task) begun open-still
 
       lasted : (0 < toldAt ts (o .desk) .begun) × (toldAt ts (o .desk) .begun < i)
-      lasted = rw last (b .first (o .desk) (o .try) (o .task) begun, b .dates .began (o .desk) (o .try) (o .task) begun)
+      lasted = rw last (b .lasting .first (o .desk) (o .try) (o .task) begun, b .dates .began (o .desk) (o .try) (o .task) begun)
 
       this : told (b .begins) (noted (b .ends) (o .desk) (o .try) i) o ≡ operation ts (o .desk) i p
       this =

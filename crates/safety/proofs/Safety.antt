@@ -25,7 +25,7 @@ module _ (mask : ℕ) (ks : List Step) (j : ℕ) (R : Run [] mask (lastWorld (st
   demand3-of : Demand3 mask ks
   demand3-of = record {
     nested = views-nested R;
-    lasted = R .book .lasted;
+    lasted = R .book .lasting .lasted;
     order = the-order R;
     complete = λ o b. order-all R o (belongs-counted o b);
     sound = λ o m. counted-belongs o (order-only R o m);
