@@ -1,4 +1,4 @@
--- Sequences: finite sets of views, any two of them nested. A view is a set (`Sets.antt`), and a sequence a list of views;
+-- Sequences: finite sets of views, any two of them nested. A view is a set (views/proofs/Sets), and a sequence a list of views;
 -- only which views are in the list matters, not their order nor how often one stands there.
 -- Assumes nothing.
 use mathlib.Core.Path.{_≡_, subst}
