@@ -11,7 +11,7 @@ use Rattle.rules.specs.Sets.{within}
 use Rattle.rules.specs.Stamps.{Pair, sign, compared, greater}
 use Rattle.rules.specs.Steps.{Step}
 use Rattle.rules.specs.History.{reading, writing, Operation, endedIn, toldIn, operations, unfinishedIn, unfinished, openedIn, openViews}
-use Rattle.rules.specs.Demand3.{ended, _∈_, isRead, Belongs, returned, latest, Next, first, next, Demand3}
+use Rattle.rules.specs.Demand3.{ended, _∈_, isRead, eventOf, Belongs, returned, latest, Next, first, next, Demand3}
 use Rattle.rules.specs.Examples.{recorded}
 
 abbrev step : ℕ → ℕ → ℕ → Step
@@ -24,10 +24,10 @@ abbrev pair : Pair
 pair = record { stamp = record { count = 1; desk = 0 }; value = 77 }
 
 abbrev wrote : Operation
-wrote = record { desk = 0; task = writing 77; begun = 1; ended = 5; pair = pair }
+wrote = record { desk = 0; task = writing 77; begun = 1; ended = 5; event = 3; pair = pair }
 
 abbrev had : Operation
-had = record { desk = 1; task = reading; begun = 6; ended = 8; pair = pair }
+had = record { desk = 1; task = reading; begun = 6; ended = 8; event = 2; pair = pair }
 
 ops : operations 1 steps ≡ wrote ∷ had ∷ []
 unfolding recorded operations endedIn
@@ -89,6 +89,7 @@ demand3-worked =
     record {
       nested = λ u v mu mv. inl (both-one u v (one-view u mu) (one-view v mv));
       lasted = λ o m. lasted o (List·Memᴰ·cases-cons (rw ops at m));
+      events = λ o m. events o (List·Memᴰ·cases-cons (rw ops at m));
       order = had ∷ wrote ∷ [];
       complete = complete;
       sound = λ o m. ended (back o (List·Memᴰ·cases-cons m));
@@ -98,6 +99,10 @@ demand3-worked =
     lasted : (o : Operation) → (o ≡ wrote) ⊎ (o ∈ (had ∷ [])) → (0 < o .begun) × (o .begun < o .ended)
     lasted o (inl e) = rw e (lit< tt, lit< tt)
     lasted o (inr h) = rw (List·Memᴰ·eq-of-singleton h) (lit< tt, lit< tt)
+
+    events : (o : Operation) → (o ≡ wrote) ⊎ (o ∈ (had ∷ [])) → o .event ≡ eventOf (o .task)
+    events o (inl e) = rw e
+    events o (inr h) = rw (List·Memᴰ·eq-of-singleton h)
 
     both-one : (u v : ℕ) → u ≡ 1 → v ≡ 1 → within u v ≡ true
     both-one u v eu ev = rw (eu, ev)

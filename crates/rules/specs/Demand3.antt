@@ -1,6 +1,7 @@
--- DEMAND 3, as a type over runs: of any two views that ever opened one holds every update of the other; and the operations that ended,
--- with the unfinished writes that some read returned, stand in one order in which each read returns the write before it and each write has the value
--- that it was told, which agrees with what had ended before what began, and along which stamps never fall. Assumes nothing.
+-- DEMAND 3, as a type over runs: of any two views that ever opened one holds every update of the other; what ended had begun in a step before, and ended
+-- with event 2 if it was a read, with event 3 if it was a write; and the operations that ended, with the unfinished writes that some read returned, stand
+-- in one order in which each read returns the write before it and each write has the value that it was told, which agrees with what had ended before what
+-- began, and along which stamps never fall. Assumes nothing.
 use mathlib.Core.Path.{_≡_}
 use mathlib.Core.Logic.{_⊎_}
 use mathlib.Core.Bool.{Bool, true, false}
@@ -18,6 +19,11 @@ x ∈ l = List·Memᴰ x l
 abbrev pub isRead : Task → Bool
 isRead reading = true
 isRead (writing x) = false
+
+-- "read 1 ends with event 2", "read 2 ends, event 2"; "write 2 ends, event 3"
+abbrev pub eventOf : Task → ℕ
+eventOf reading = 2
+eventOf (writing x) = 3
 
 -- o had ended when p began
 abbrev pub Before : Operation → Operation → Type 0
@@ -55,6 +61,8 @@ pub record Demand3 (mask : ℕ) (ks : List Step) : Type 0 where
   pub nested : (u v : ℕ) → u ∈ openViews mask ks → v ∈ openViews mask ks → (within u v ≡ true) ⊎ (within v u ≡ true)
   -- what ended had begun in a step before
   pub lasted : (o : Operation) → o ∈ operations mask ks → (0 < o .begun) × (o .begun < o .ended)
+  -- a read ended with event 2 and a write with event 3, so event 2 ended reads only and event 3 writes only
+  pub events : (o : Operation) → o ∈ operations mask ks → o .event ≡ eventOf (o .task)
   pub order : List Operation
   pub complete : (o : Operation) → Belongs mask ks o → o ∈ order
   pub sound : (o : Operation) → o ∈ order → Belongs mask ks o

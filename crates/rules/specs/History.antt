@@ -13,13 +13,14 @@ pub data Task : Type 0 where
   reading : Task
   writing : ℕ → Task
 
--- an operation: its desk, what it was told, the number of the step with which it began, the number of the step with which it ended (0: it has not),
--- and its stamp and value: what a read returned, what a write wrote
+-- an operation: its desk, what it was told, the number of the step with which it began, the number of the step with which it ended (0: it has not)
+-- and of the event that this step told (2 or 3; 0: it has not ended), and its stamp and value: what a read returned, what a write wrote
 pub record Operation : Type 0 where
   pub desk : ℕ
   pub task : Task
   pub begun : ℕ
   pub ended : ℕ
+  pub event : ℕ
   pub pair : Pair
 
 -- what the four desks were last told, and when
@@ -49,15 +50,15 @@ abbrev pub began : ℕ → List Told → Step → Outcome → List Told
 began i ts k (refusal x) = ts
 began i ts k (done w e a b c) = begin i ts (told k)
 
--- events 2 and 3 end the one that the desk was last told
-abbrev pub operation : List Told → ℕ → ℕ → Pair → Operation
-operation ts n ended p = record { desk = n; task = toldAt ts n .task; begun = toldAt ts n .begun; ended = ended; pair = p }
+-- events 2 and 3 end the one that the desk was last told, whichever that was: that it was a read or a write is Demand3's to say
+abbrev pub operation : List Told → ℕ → ℕ → ℕ → Pair → Operation
+operation ts n ended event p = record { desk = n; task = toldAt ts n .task; begun = toldAt ts n .begun; ended = ended; event = event; pair = p }
 
 abbrev pub endedBy : ℕ → List Told → Event → ℕ → List Operation
 endedBy i ts nothing n = []
 endedBy i ts (opened v) n = []
-endedBy i ts (readDone p) n = operation ts n i p ∷ []
-endedBy i ts (writeDone p) n = operation ts n i p ∷ []
+endedBy i ts (readDone p) n = operation ts n i 2 p ∷ []
+endedBy i ts (writeDone p) n = operation ts n i 3 p ∷ []
 
 -- the operations that ended, oldest first, from the step numbered i on
 unfoldable pub endedIn : ℕ → List Told → List Step → List Outcome → List Operation
@@ -79,7 +80,7 @@ unfinishedBy ts n Idle p = []
 unfinishedBy ts n Read1 p = []
 unfinishedBy ts n Read2 p = []
 unfinishedBy ts n Write1 p = []
-unfinishedBy ts n Write2 p = operation ts n 0 p ∷ []
+unfinishedBy ts n Write2 p = operation ts n 0 0 p ∷ []
 
 unfoldable pub unfinishedIn : List Told → ℕ → List Desk → List Operation
 unfinishedIn ts n [] = []

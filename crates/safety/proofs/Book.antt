@@ -3,14 +3,14 @@
 use mathlib.Core.Path.{_≡_, refl, sym, subst, ap, _∙_}
 use mathlib.Core.Logic.{_⊎_, inl, inr, ⊎-elim}
 use mathlib.Core.List.{List, [], _∷_, _++_, List·Memᴰ·head, List·Memᴰ·tail, List·Memᴰ·not-nil, List·Memᴰ·cases-cons, List·Memᴰ·append-cases, List·Memᴰ·eq-of-singleton, Memᴰ·cast, Memᴰ·append-left, Memᴰ·append-right}
-use Prim.Native.Nat.{ℕ, suc, _<_}
+use Prim.Native.Nat.{ℕ, zero, suc, _<_}
 use native.Mathlib.Omega.{arith}
 use native.Mathlib.Decide.{ℕ-discrete}
 use lib.ListN.{length, set, length-set}
 use lib.Seq.{getD-set-same, getD-set-other}
 use Rattle.rules.specs.Stamps.{Pair}
 use Rattle.rules.specs.History.{Operation, Told, toldAt, nobody, operation}
-use Rattle.rules.specs.Demand3.{_∈_}
+use Rattle.rules.specs.Demand3.{_∈_, eventOf}
 use Rattle.safety.proofs.Numbers.{num, Small, pairOf, pair-back}
 use Rattle.safety.proofs.Log.{Task, Op, Log, _∋_, begin, settle, finish, Active, active-start, Sound}
 use Rattle.safety.proofs.Past.{now, back, past-has, justified, sound-past, why}
@@ -20,15 +20,28 @@ use Rattle.safety.proofs.Growth.{Since, stay, add, since-has, one-more,
 use Rattle.safety.proofs.DeskFacts.{Done, done-more}
 use Rattle.safety.proofs.Dates.{Times, noted, noted-here, noted-other, Dates, dates-none, dates-plain, dates-on, begun-before, dates-begin, dates-finish}
 
+-- the event of an operation that ended with the step numbered i (0: it has not)
+abbrev pub eventAt : ℕ → Task → ℕ
+eventAt zero a = 0
+eventAt (suc i) a = eventOf a
+
+pub event-at : (i : ℕ) (a : Task) → 0 < i → eventAt i a ≡ eventOf a
+event-at zero a h = absurd (omega arith)
+event-at (suc i) a h = refl
+
 -- an operation of the log in the history's words
-abbrev pub told : Times → Times → Op → Operation
-told begins ends o = record {
+abbrev dated : Op → ℕ → ℕ → Operation
+dated o begun ended = record {
   desk = o .desk;
   task = o .task;
-  begun = begins (o .desk) (o .try);
-  ended = ends (o .desk) (o .try);
+  begun = begun;
+  ended = ended;
+  event = eventAt ended (o .task);
   pair = pairOf (o .stamp) (o .value);
 }
+
+abbrev pub told : Times → Times → Op → Operation
+told begins ends o = dated o (begins (o .desk) (o .try)) (ends (o .desk) (o .try))
 
 -- steps are numbered from 1, and what ended had begun in a step before
 pub record Lasting (l : Log) (begins : Times) (ops : List Operation) : Type 0 where
@@ -161,7 +174,7 @@ module _ {start i : ℕ} {ts : List Told} {ops : List Operation} {vs : List ℕ}
       same : (o : Op) → l ∋ finish o → told (noted (b .begins) n s i) (b .ends) o ≡ told (b .begins) (b .ends) o
       same o h =
           let e = begun-before (b .dates) n s x fresh (o .desk) (o .try) (o .task) (finish-begun before h .1) in
-          λ j. record { desk = o .desk; task = o .task; begun = e j; ended = b .ends (o .desk) (o .try); pair = pairOf (o .stamp) (o .value) }
+          λ j. dated o (e j) (b .ends (o .desk) (o .try))
 
       current : (m t : ℕ) (a : Task) → (begin m t a ≡ begin n s x) ⊎ (l ∋ begin m t a) → (Done (begin n s x ∷ l) m t → ⊥) → Dec (m ≡ n)
           → toldAt (set ts n (record { task = x; begun = i })) m ≡ record { task = a; begun = noted (b .begins) n s i m t }
@@ -180,7 +193,7 @@ module _ {start i : ℕ} {ts : List Told} {ops : List Operation} {vs : List ℕ}
 
   pub book-end : {l : Log} (o : Op) (p : Pair) → Sound start (finish o ∷ l) → o .stamp ≡ num (p .stamp) → o .value ≡ p .value → Small p
       → Book start l i ts ops vs
-      → Book start (finish o ∷ l) (suc i) ts (ops ++ operation ts (o .desk) i p ∷ []) vs
+      → Book start (finish o ∷ l) (suc i) ts (ops ++ operation ts (o .desk) i (eventOf (o .task)) p ∷ []) vs
   book-end {l} o p S es ev small b = record {
     begins = b .begins;
     ends = noted (b .ends) (o .desk) (o .try) i;
@@ -212,7 +225,7 @@ module _ {start i : ℕ} {ts : List Told} {ops : List Operation} {vs : List ℕ}
       others : (q : Op) → l ∋ finish q → told (b .begins) (noted (b .ends) (o .desk) (o .try) i) q ≡ told (b .begins) (b .ends) q
       others q h =
           let e = noted-other (b .ends) (o .desk) (o .try) i (q .desk) (q .try) (λ x y. open-still (q, h, x, y)) in
-          λ j. record { desk = q .desk; task = q .task; begun = b .begins (q .desk) (q .try); ended = e j; pair = pairOf (q .stamp) (q .value) }
+          λ j. dated q (b .begins (q .desk) (q .try)) (e j)
 
       begun : l ∋ begin (o .desk) (o .try) (o .task)
       begun = let w = why before settled in past-has (back (w .past)) (w .is .begun)
@@ -223,21 +236,22 @@ module _ {start i : ℕ} {ts : List Told} {ops : List Operation} {vs : List ℕ}
       lasted : (0 < toldAt ts (o .desk) .begun) × (toldAt ts (o .desk) .begun < i)
       lasted = rw last (b .lasting .first (o .desk) (o .try) (o .task) begun, b .dates .began (o .desk) (o .try) (o .task) begun)
 
-      this : told (b .begins) (noted (b .ends) (o .desk) (o .try) i) o ≡ operation ts (o .desk) i p
+      this : told (b .begins) (noted (b .ends) (o .desk) (o .try) i) o ≡ operation ts (o .desk) i (eventOf (o .task)) p
       this =
           let c = last in
           let e = noted-here (b .ends) (o .desk) (o .try) i {e = o .desk} {u = o .try} refl refl in
+          let k = ap (λ (x : ℕ). eventAt x (o .task)) e ∙ event-at i (o .task) (b .late) in
           let f : pairOf (o .stamp) (o .value) ≡ p = (λ j. pairOf (es j) (ev j)) ∙ pair-back p small in
-          λ j. record { desk = o .desk; task = sym c j .task; begun = sym c j .begun; ended = e j; pair = f j }
+          λ j. record { desk = o .desk; task = sym c j .task; begun = sym c j .begun; ended = e j; event = k j; pair = f j }
 
       listed : (q : Op) → (finish q ≡ finish o) ⊎ (l ∋ finish q)
-          → told (b .begins) (noted (b .ends) (o .desk) (o .try) i) q ∈ (ops ++ operation ts (o .desk) i p ∷ [])
+          → told (b .begins) (noted (b .ends) (o .desk) (o .try) i) q ∈ (ops ++ operation ts (o .desk) i (eventOf (o .task)) p ∷ [])
       listed q (inl c) =
           let e : q ≡ o = cc in
           Memᴰ·append-right ops (List·Memᴰ·head (ap (told (b .begins) (noted (b .ends) (o .desk) (o .try) i)) e ∙ this))
-      listed q (inr h) = Memᴰ·append-left (operation ts (o .desk) i p ∷ []) (Memᴰ·cast (others q h) (b .listed q h))
+      listed q (inr h) = Memᴰ·append-left (operation ts (o .desk) i (eventOf (o .task)) p ∷ []) (Memᴰ·cast (others q h) (b .listed q h))
 
-      known : (q : Operation) → (q ∈ ops) ⊎ (q ∈ (operation ts (o .desk) i p ∷ []))
+      known : (q : Operation) → (q ∈ ops) ⊎ (q ∈ (operation ts (o .desk) i (eventOf (o .task)) p ∷ []))
           → (r : Op) × ((finish o ∷ l) ∋ finish r) × (told (b .begins) (noted (b .ends) (o .desk) (o .try) i) r ≡ q)
       known q (inl h) = let k = b .known q h in (k .0, List·Memᴰ·tail (k .1), others (k .0) (k .1) ∙ k .2)
       known q (inr h) = (o, List·Memᴰ·head refl, this ∙ sym (List·Memᴰ·eq-of-singleton h))

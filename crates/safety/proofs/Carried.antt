@@ -10,7 +10,7 @@ use Rattle.views.proofs.Sets.{within-test, within-refl}
 use Rattle.rules.specs.Stamps.{Stamp, greater}
 use Rattle.rules.specs.State.{World}
 use Rattle.rules.specs.History.{Operation, Told, unfinishedIn}
-use Rattle.rules.specs.Demand3.{_∈_, isRead, written, latest, Next, Ordered, first, next}
+use Rattle.rules.specs.Demand3.{_∈_, isRead, eventOf, written, latest, Next, Ordered, first, next}
 use Rattle.safety.proofs.Sequences.{Comparable, same, inner, outer}
 use Rattle.safety.proofs.Numbers.{num, stampOf, pairOf, stamps-rise}
 use Rattle.safety.proofs.Log.{Task, reading, writing, Op, Log, _∋_, begin, settle}
@@ -18,7 +18,7 @@ use Rattle.safety.proofs.Past.{back, past-has, why}
 use Rattle.safety.proofs.Operations.{settle-once, write-value}
 use Rattle.safety.proofs.Order.{Ops, _contains_, Counts, ended, returned, pick, latest as last-write, Next as NextInLog, Lined, lined-nil, lined-cons, Descending, desc-cons}
 use Rattle.safety.proofs.Static.{demand3}
-use Rattle.safety.proofs.Book.{finish-begun}
+use Rattle.safety.proofs.Book.{event-at, finish-begun}
 use Rattle.safety.proofs.Running.{Run}
 use Rattle.safety.proofs.Unfinished.{named, done-finish, unfinished-known, settled-write}
 
@@ -43,6 +43,12 @@ module _ {old : Log} {mask i : ℕ} {w : World} {ts : List Told} {ops : List Ope
   -- of two views that opened one holds every update of the other
   pub views-nested : (u v : ℕ) → u ∈ vs → v ∈ vs → (withinOf u v ≡ true) ⊎ (withinOf v u ≡ true)
   views-nested u v a b = nested-test (demand3 (R .sound) .one-chain (R .book .opened u a .1) (R .book .opened v b .1))
+
+  -- a read ended with event 2, a write with event 3
+  pub events-told : (p : Operation) → p ∈ ops → p .event ≡ eventOf (p .task)
+  events-told p m =
+      let k = R .book .known p m in
+      subst (λ (x : Operation). x .event ≡ eventOf (x .task)) (k .2) (event-at _ (k .0 .task) (R .book .dates .ended (k .0) (k .1) .0))
 
   abbrev name : Op → Operation
   name = named R

@@ -18,6 +18,7 @@ use Rattle.rules.specs.declared.Desk.{Desk}
 use Rattle.rules.specs.Sending.{place, placeAll}
 use Rattle.rules.specs.Steps.{Act, Report, reports, Outcome, refusal, done, roomy, relayDoes, deskDoes}
 use Rattle.rules.specs.History.{Told, begin as beginning, endedBy, operation, openedBy}
+use Rattle.rules.specs.Demand3.{eventOf}
 use Rattle.safety.proofs.Lists.{All, all-none, all-more, all-append, all-map, all-image, those-pass}
 use Rattle.safety.proofs.Numbers.{num, Small}
 use Rattle.safety.proofs.Log.{Task, Op, Log, begin, finish, Active, Sound}
@@ -36,18 +37,18 @@ Still a = (i : ℕ) (ts : List Told) → beginning i ts a ≡ ts
 abbrev pub Begins : Act → ℕ → Task → Type 0
 Begins a n x = (i : ℕ) (ts : List Told) → beginning i ts a ≡ set ts n (record { task = x; begun = i })
 
--- the report ends nothing; it ends an operation of the desk n with the pair p
+-- the report ends nothing; it ends the operation o with the pair p
 abbrev pub NoEnd : Report → Type 0
 NoEnd r = (i : ℕ) (ts : List Told) → endedBy i ts (r .event) (r .who) ≡ []
 
-abbrev pub EndOf : Report → ℕ → Pair → Type 0
-EndOf r n p = (i : ℕ) (ts : List Told) → endedBy i ts (r .event) (r .who) ≡ operation ts n i p ∷ []
+abbrev pub EndOf : Report → Op → Pair → Type 0
+EndOf r o p = (i : ℕ) (ts : List Told) → endedBy i ts (r .event) (r .who) ≡ operation ts (o .desk) i (eventOf (o .task)) p ∷ []
 
 pub data Deed (start : ℕ) (l : Log) (a : Act) (r : Report) : Log → Type 0 where
   quiet : {m : Log} → Since Plain l m → Still a → NoEnd r → openedBy (r .event) ≡ [] → Deed start l a r m
   opens : {m : Log} (k v : ℕ) → Since Plain l m → Still a → NoEnd r → openedBy (r .event) ≡ v ∷ [] → Active start m k v → Deed start l a r m
   begun : {m : Log} (n t : ℕ) (x : Task) → n < 4 → Since Plain (begin n t x ∷ l) m → Begins a n x → NoEnd r → openedBy (r .event) ≡ [] → Deed start l a r m
-  ended : {m : Log} (o : Op) (p : Pair) → Since Plain l m → Still a → EndOf r (o .desk) p → openedBy (r .event) ≡ [] → o .stamp ≡ num (p .stamp)
+  ended : {m : Log} (o : Op) (p : Pair) → Since Plain l m → Still a → EndOf r o p → openedBy (r .event) ≡ [] → o .stamp ≡ num (p .stamp)
       → o .value ≡ p .value → Small p
       → Deed start l a r (finish o ∷ m)
 
@@ -150,11 +151,12 @@ module _ {start : ℕ} {l : Log} (a : Act) (w : World) (h : WorldTied start l w)
         deed = deed (t .ending);
       }) (λ _. tt)
     where
-      told-end : {e : Event} {p : Pair} → Says e p → (j : ℕ) (ts : List Told) → endedBy j ts (reports e n .event) (reports e n .who) ≡ operation ts n j p ∷ []
+      told-end : {a : Task} {e : Event} {p : Pair} → Says a e p → (j : ℕ) (ts : List Told)
+          → endedBy j ts (reports e n .event) (reports e n .who) ≡ operation ts n j (eventOf a) p ∷ []
       told-end says-read j ts = refl
       told-end says-write j ts = refl
 
-      told-open : {e : Event} {p : Pair} → Says e p → openedBy (reports e n .event) ≡ []
+      told-open : {a : Task} {e : Event} {p : Pair} → Says a e p → openedBy (reports e n .event) ≡ []
       told-open says-read = refl
       told-open says-write = refl
 

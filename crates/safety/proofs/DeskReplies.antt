@@ -146,7 +146,7 @@ module _ {start : ℕ} {l : Log} {n : ℕ} (S : Sound start l) (s : n < 4) (d : 
   mine : {o : Op} → Doing l n (d .tries) (d .view) (putting o) → o .desk ≡ n
   mine (puts-now e b c a g) = e
 
-  acked : {o : Op} {e : Event} → Says e (d .holds) → Acks l n d o → DeskFacts l n (d .tries) (d .view) (putting o) → DeskStep start l n (ended d) [] e
+  acked : {o : Op} {e : Event} → Says (o .task) e (d .holds) → Acks l n d o → DeskFacts l n (d .tries) (d .view) (putting o) → DeskStep start l n (ended d) [] e
   acked {o} says A f = record {
     mid = l;
     quiet = stay;
@@ -163,8 +163,8 @@ module _ {start : ℕ} {l : Log} {n : ℕ} (S : Sound start l) (s : n < 4) (d : 
   completes-done at-rest e f = still d S (record { stage = resting; facts = f; phased = rw e at-rest })
   completes-done (at-read1 F) e f = read1-done F f
   completes-done (at-write1 F) e f = write1-done F f
-  completes-done (at-read2 t A) e f = acked says-read A f
-  completes-done (at-write2 t A) e f = acked says-write A f
+  completes-done (at-read2 t A) e f = acked (rw t says-read) A f
+  completes-done (at-write2 t A) e f = acked (rw t says-write) A f
 
 module _ {start : ℕ} {l : Log} {n : ℕ} (S : Sound start l) (s : n < 4) where
   counted-done : (d : Desk) → DeskTied l n d → DeskDone start l n (counted n d)

@@ -30,14 +30,15 @@ use Rattle.safety.proofs.Grown.{sent-alike}
 abbrev pub Asking : ℕ → Entry → Type 0
 Asking d e = ByDesk d e × Plain e
 
--- an operation's end is the last entry of its step, and is told
-pub data Says : Event → Pair → Type 0 where
-  says-read : {p : Pair} → Says (readDone p) p
-  says-write : {p : Pair} → Says (writeDone p) p
+-- an operation's end is the last entry of its step, and is told: a read's by event 2, a write's by event 3
+pub data Says : Task → Event → Pair → Type 0 where
+  says-read : {p : Pair} → Says reading (readDone p) p
+  says-write : {x : ℕ} {p : Pair} → Says (writing x) (writeDone p) p
 
 pub data Ending (n : ℕ) (l : Log) : Event → Log → Type 0 where
   goes-on : Ending n l nothing l
-  ends : {e : Event} {p : Pair} (o : Op) → Says e p → o .desk ≡ n → o .stamp ≡ num (p .stamp) → o .value ≡ p .value → Small p → Ending n l e (finish o ∷ l)
+  ends : {e : Event} {p : Pair} (o : Op) → Says (o .task) e p → o .desk ≡ n → o .stamp ≡ num (p .stamp) → o .value ≡ p .value → Small p
+      → Ending n l e (finish o ∷ l)
 
 pub record DeskStep (start : ℕ) (l : Log) (n : ℕ) (d : Desk) (ss : List Sending) (e : Event) : Type 0 where
   pub mid : Log

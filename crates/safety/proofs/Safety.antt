@@ -1,6 +1,7 @@
--- DEMAND 3 HOLDS: for every start and every list of steps of the rules, of any two views that ever opened one holds every update of the other, and the
--- operations that ended, with the unfinished writes that some read returned, stand in one order in which each read returns the write before it,
--- which agrees with what had ended before what began, and along which stamps never fall. Assumes nothing: no axiom, no hole.
+-- DEMAND 3 HOLDS: for every start and every list of steps of the rules, of any two views that ever opened one holds every update of the other; what ended had
+-- begun in a step before, a read ended with event 2 and a write with event 3; and the operations that ended, with the unfinished writes that some read
+-- returned, stand in one order in which each read returns the write before it, which agrees with what had ended before what began, and along which stamps
+-- never fall. Assumes nothing: no axiom, no hole.
 use mathlib.Core.List.{List, []}
 use Prim.Native.Nat.{ℕ}
 use Rattle.rules.specs.State.{start}
@@ -9,7 +10,7 @@ use Rattle.rules.specs.Runs.{outcomes, lastWorld}
 use Rattle.rules.specs.History.{Operation, nobody, toldIn, operations, unfinished, openViews}
 use Rattle.rules.specs.Demand3.{Belongs, ended, returned, Demand3, Demand3ForAll}
 use Rattle.safety.proofs.Running.{Run, run-start, run-steps}
-use Rattle.safety.proofs.Carried.{views-nested, Counted, has-ended, was-returned, the-order, order-all, order-only, order-is}
+use Rattle.safety.proofs.Carried.{views-nested, events-told, Counted, has-ended, was-returned, the-order, order-all, order-only, order-is}
 
 module _ (mask : ℕ) (ks : List Step) (j : ℕ) (R : Run [] mask (lastWorld (start mask) ks) j (toldIn 1 nobody ks (outcomes (start mask) ks)) (operations mask ks) (openViews mask ks)) where
   belongs-counted : (o : Operation) → Belongs mask ks o → Counted R o
@@ -26,6 +27,7 @@ module _ (mask : ℕ) (ks : List Step) (j : ℕ) (R : Run [] mask (lastWorld (st
   demand3-of = record {
     nested = views-nested R;
     lasted = R .book .lasting .lasted;
+    events = events-told R;
     order = the-order R;
     complete = λ o b. order-all R o (belongs-counted o b);
     sound = λ o m. counted-belongs o (order-only R o m);

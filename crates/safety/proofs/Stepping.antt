@@ -65,7 +65,7 @@ module _ {start : ℕ} {l : Log} (a : Act) (w : World) (h : WorldTied start l w)
         deed = begun n t b i (since-map (λ e b. b .1) (g .quiet)) f (λ j ts. refl) refl;
       })) (λ _. tt)
     where
-      never : {e : Event} {p : Pair} → Says e p → e ≡ nothing → ⊥
+      never : {a : Task} {e : Event} {p : Pair} → Says a e p → e ≡ nothing → ⊥
       never says-read z = let y : _≡_ {A = ℕ} 0 1 = cc in omega arith
       never says-write z = let y : _≡_ {A = ℕ} 0 1 = cc in omega arith
 

@@ -17,7 +17,7 @@ use Rattle.safety.proofs.Past.{back, past-has, why}
 use Rattle.safety.proofs.Operations.{Writes, settle-once}
 use Rattle.safety.proofs.DeskFacts.{DeskFacts, Stage, asking, putting, Busy, Done, Doing, asks, puts}
 use Rattle.safety.proofs.Ties.{Acks, Phased, at-rest, at-read1, at-write1, at-read2, at-write2}
-use Rattle.safety.proofs.Book.{told, finish-begun}
+use Rattle.safety.proofs.Book.{eventAt, told, finish-begun}
 use Rattle.safety.proofs.Running.{Run}
 
 -- ---- the list, desk by desk
@@ -68,19 +68,19 @@ module _ {old : Log} {first i : ℕ} {w : World} {ts : List Told} {ops : List Op
 
   -- the write that the desk n puts
   putting-named : (n : ℕ) (d : Desk) {o : Op} → Acks (R .log) n d o → Doing (R .log) n (d .tries) (d .view) (putting o)
-      → (R .log ∋ settle o) × (named o ≡ operation ts n 0 (d .holds))
+      → (R .log ∋ settle o) × (named o ≡ operation ts n 0 0 (d .holds))
   putting-named n d {o} A (puts e b s q f) = (s, same)
     where
       open-still : Done (R .log) n (o .try) → ⊥
       open-still x = f (done-finish s (x .0, x .1, x .2 ∙ sym e, x .3))
 
-      same : named o ≡ operation ts n 0 (d .holds)
+      same : named o ≡ operation ts n 0 0 (d .holds)
       same =
           let c = R .book .current n (o .try) (o .task) b open-still in
           let z : R .book .ends (o .desk) (o .try) ≡ 0 = not-ended (o .desk) (o .try) (λ x. open-still (x .0, x .1, x .2 ∙ e, x .3)) in
           let g : R .book .begins (o .desk) (o .try) ≡ toldAt ts n .begun = ap (λ (x : ℕ). R .book .begins x (o .try)) e ∙ ap (λ (x : Told). x .begun) (sym c) in
           let p : pairOf (o .stamp) (o .value) ≡ d .holds = (λ j. pairOf (A .stamp-is j) (A .value-is j)) ∙ pair-back (d .holds) (A .small) in
-          λ j. record { desk = e j; task = sym c j .task; begun = g j; ended = z j; pair = p j }
+          λ j. record { desk = e j; task = sym c j .task; begun = g j; ended = z j; event = eventAt (z j) (o .task); pair = p j }
 
   pub unfinished-known : (p : Operation) → p ∈ unfinishedIn ts 0 (w .desks) → (o : Op) × (R .log ∋ settle o) × Writes o × (named o ≡ p)
   unfinished-known p m =
