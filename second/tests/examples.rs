@@ -75,6 +75,17 @@ const EXAMPLES: &[(&str, &[Point])] = &[
         ],
     ),
     (
+        "overlap",
+        &[
+            (3, "3 0 0 0 0 0 0", Rule::Write1Done),
+            (10, "10 0 1 0 0 0 3", Rule::EntryActive),
+            (12, "12 0 1 1 0 0 3", Rule::EntryActive),
+            (17, "17 0 0 0 0 0 0", Rule::PutStored),
+            (30, "30 0 2 1 1 0 77", Rule::Read2Ends),
+            (40, "40 0 3 2 2 2 88", Rule::Write2Ends),
+        ],
+    ),
+    (
         "read-puts-back",
         &[
             (15, "15 0 0 0 0 0 0", Rule::Read1PutsBack),

@@ -13,12 +13,10 @@ use Rattle.rules.specs.Steps.{Step}
 use Rattle.rules.specs.History.{reading, writing, Operation, endedIn, toldIn, operations, unfinishedIn, unfinished, openedIn, openViews}
 use Rattle.rules.specs.Demand3.{ended, _∈_, isRead, eventOf, Belongs, returned, latest, Next, first, next, Demand3}
 use Rattle.rules.specs.Examples.{recorded}
-
-abbrev step : ℕ → ℕ → ℕ → Step
-step k i x = record { kind = k; id = i; value = x }
+use Rattle.rules.specs.Overlap.{READ, WRITE, DELIVER}
 
 abbrev steps : List Step
-steps = step 5 0 77 ∷ step 6 0 0 ∷ step 6 0 0 ∷ step 6 0 0 ∷ step 6 0 0 ∷ step 4 1 0 ∷ step 6 0 0 ∷ step 6 0 0 ∷ step 6 0 0 ∷ []
+steps = WRITE 0 77 ∷ DELIVER 0 ∷ DELIVER 0 ∷ DELIVER 0 ∷ DELIVER 0 ∷ READ 1 ∷ DELIVER 0 ∷ DELIVER 0 ∷ DELIVER 0 ∷ []
 
 abbrev pair : Pair
 pair = record { stamp = record { count = 1; desk = 0 }; value = 77 }

@@ -16,6 +16,7 @@ pub mod Sheets
 pub mod Runs
 pub mod History
 pub mod Demand3
--- document 01's examples, computed
+-- document 01's examples, computed; and the history of a run with all that demand 3 speaks of
 pub mod Classroom
 pub mod Examples
+pub mod Overlap

@@ -46,3 +46,4 @@ pub mod Unfinished
 pub mod Carried
 pub mod Safety
 pub mod Corollaries
+pub mod Overlap
