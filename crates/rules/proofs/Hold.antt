@@ -1,12 +1,13 @@
 -- Conditions that all hold, and tests over lists. Assumes nothing.
 use mathlib.Core.Path.{_≡_, refl}
-use mathlib.Core.Bool.{Bool, true, false, and-eq-true-iff}
+use mathlib.Core.Bool.{Bool, true, false, not, and-eq-true-iff}
 use mathlib.Core.List.{List, [], _∷_, _++_}
 use Prim.Native.Nat.{ℕ, zero, suc, _+_}
 use native.Mathlib.Omega.{arith}
-use lib.ListN.{getD, set}
+use lib.ListN.{length, getD, set}
 use Rattle.views.proofs.Truth.{cases}
-use Rattle.rules.specs.Sets.{if_then_else_, allHold, all, those}
+use Rattle.rules.specs.Sets.{_&&_, if_then_else_, allHold, all, those}
+use Rattle.rules.specs.Generators.{oneIf}
 use Rattle.rules.specs.WellFormed.{allFrom, distinct}
 
 abbrev pub AllTrue : List Bool → Type 0
@@ -128,3 +129,14 @@ module _ {A : Type 0} (same : A → A → Bool) (put : A → List A → List A)
       rw (put-some x y ys)
       (cases (λ (l : List A). distinct differ l ≡ true) (same y x) (λ e. distinct-more differ x ys (alike x y ys e (k .0)) (k .1))
       (λ e. distinct-more differ y (put x ys) (all-put (differ y) x (apart x y e) ys (k .0)) r))
+
+  -- longer by one exactly where none was the same
+  pub put-length : (x : A) (ys : List A) → length (put x ys) ≡ length ys + oneIf (all (λ y. not (same y x)) ys)
+  unfolding all
+  put-length x [] = rw (put-none x) refl
+  put-length x (y ∷ ys) = rw (put-some x y ys) (go (same y x) (put-length x ys))
+    where
+      go : (b : Bool) → length (put x ys) ≡ length ys + oneIf (all (λ y. not (same y x)) ys)
+          → length (if b then x ∷ ys else y ∷ put x ys) ≡ length (y ∷ ys) + oneIf (not b && all (λ y. not (same y x)) ys)
+      go true e = omega arith
+      go false e = omega arith

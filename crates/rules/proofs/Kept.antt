@@ -44,7 +44,7 @@ good-tests : (w : World) → Good w → wellFormed w ≡ true
 unfolding wellFormed
 good-tests w h = hold-tests _ (eq-eqb _ _ (h .eight), (h .relays, (eq-eqb _ _ (h .four), (h .desks, (eq-eqb _ _ (h .many), (h .places, tt))))))
 
-relay-of : (w : World) → Good w → (s : ℕ) → goodRelay s (relayAt w s) ≡ true
+pub relay-of : (w : World) → Good w → (s : ℕ) → goodRelay s (relayAt w s) ≡ true
 unfolding goodRelay goodGenerators goodTransfers isPair all distinct allHold
 relay-of w g s =
     let z : 0 + s ≡ s = omega arith in

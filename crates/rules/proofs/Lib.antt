@@ -1,6 +1,5 @@
 pub mod Refusals
 pub mod Order
-pub mod Table
 pub mod Starts
 pub mod Counts
 pub mod Hold
@@ -14,6 +13,7 @@ pub mod Desks
 pub mod Kept
 pub mod Sheets
 pub mod Rooms
+pub mod Taken
 pub mod Mistakes
 pub mod Worked
 pub mod ImageWidths

@@ -1,4 +1,4 @@
--- "Checked in this order, the first that applies": the table of answers as one equation, over any world and any step. Assumes nothing.
+-- "Checked in this order, the first that applies": the table of answers (specs/Table) as one equation, over any well-formed world and any step. Assumes nothing.
 use mathlib.Core.Path.{_≡_, refl, ap, _∙_}
 use mathlib.Core.Bool.{Bool, true, false, not}
 use mathlib.Core.List.{List, [], _∷_}
@@ -6,18 +6,23 @@ use Prim.Native.Nat.{ℕ, zero, suc, _+_, _-_, _<_}
 use native.Mathlib.Omega.{arith}
 use lib.Dec.{eqb, leb, ltb, lit<}
 use lib.ListN.{length}
-use borrow.Author.Tests.{le-ltb, ne-eqb}
+use borrow.Author.Tests.{leb-true, le-ltb, ne-eqb}
 use Rattle.views.proofs.Truth.{cases}
 use Rattle.rules.specs.Sets.{_&&_, _||_, if_then_else_, within, member, reaches, inside, joins, none}
 use Rattle.rules.specs.Stamps.{Pair}
-use Rattle.rules.specs.Messages.{Body, request, view, proposal, converged, install, state, get, put, viewReply, pairReply, ack, Message, Sending, outgoing, Event, dead, not-now, not-yet, worn, no-room, Answer, refused, does, sends, toMembers}
+use Rattle.rules.specs.Messages.{Body, request, view, proposal, converged, install, state, get, put, viewReply, pairReply, ack, Message, Sending, outgoing, Event, bad-step, empty, dead, not-now, not-yet, worn, no-room, number, Answer, refused, does, sends, toMembers}
 use Rattle.rules.specs.State.{Desk, Phase, Idle, Read1, Read2, Write1, Write2, Transfer, Relay, Place, free, waiting, World, relayAt, deskAt, placeAt}
+use Rattle.rules.specs.Sending.{freeIn}
 use Rattle.rules.specs.Generators.{Turn}
 use Rattle.rules.specs.Relays.{atGenerator, joinAsked, leaveAsked, timerRang, requestHeard, passes, onward, enters, tested, early, stopped, handed, takesInstall, sentFirst, installHeard, stateHeard, serves, getHeard, putHeard, relayHears}
 use Rattle.rules.specs.Desks.{isIdle, isFirst, isSecond, full, cleared, asks, begins, readAsked, writeAsked, current, viewCame, takesStamp, completes, counted, pairCame, ackCame, deskHears}
 use Rattle.rules.specs.Steps.{Step, Act, join, leave, timer, read, write, deliver, drop, crash, bad, told, Outcome, refusal, roomy, relayDoes, deskDoes, aliveIn, ifAlive, freed, delivers, delivery, dropping, crashing, acts, stepped}
+use Rattle.rules.specs.WellFormed.{goodGenerators, goodTransfers, goodRelay, wellFormed}
 use Rattle.rules.specs.Runs.{answer}
-use Rattle.rules.proofs.Table.{firstOf, outOfRange, further, isFree, isDead, receiverDead, notNow, mustWait, messageWaits, notYet, phaseWears, quorumWears, replyWears, messageWears, wornOut, heardBy, delivered, ruling, relayRoom, deskRoom, room, table, relayed, desked}
+use Rattle.rules.specs.Table.{firstOf, outOfRange, further, isFree, isDead, receiverDead, notNow, mustWait, messageWaits, notYet, phaseWears, quorumWears, replyWears, messageWears, wornOut, lacksGenerator, takesGenerator, takesTransfer, generatorsFor, transfersFor, heardBy, delivered, ruling, relayRoom, deskRoom, room, table, relayed, desked}
+use Rattle.rules.proofs.Taken.{Fits, Few, join-fits, leave-fits, timer-fits, hears-fits}
+use Rattle.rules.proofs.Hold.{hold-facts}
+use Rattle.rules.proofs.Kept.{good-facts, relay-of}
 
 -- ---- a rule refuses with NOT NOW, NOT YET or WORN, each where the three say so, the first that does
 
@@ -160,44 +165,52 @@ desk-own n d from (put try c p) = deed
 
 -- ---- the answer is the table's
 
-alive-row : (w : World) (who : ℕ) (o : Outcome) (rows : List (Bool × ℕ)) → answer o ≡ firstOf rows → answer (ifAlive w who o) ≡ firstOf ((isDead w who, 4) ∷ rows)
+alive-row : (w : World) (who : ℕ) (o : Outcome) (rows : List (Bool × ℕ)) → answer o ≡ firstOf rows → answer (ifAlive w who o) ≡ firstOf ((isDead w who, number dead) ∷ rows)
 unfolding ifAlive
 alive-row w who o rows e = go (aliveIn w who)
   where
-    go : (b : Bool) → answer (if b then o else refusal dead) ≡ (if not b then 4 else firstOf rows)
+    go : (b : Bool) → answer (if b then o else refusal dead) ≡ (if not b then number dead else firstOf rows)
     go true = e
     go false = refl
 
-room-row : (b : Bool) (o : Outcome) → answer o ≡ 0 → answer (if b then o else refusal no-room) ≡ (if not b then 8 else 0)
+room-row : (b : Bool) (o : Outcome) → answer o ≡ 0 → answer (if b then o else refusal no-room) ≡ (if not b then number no-room else 0)
 room-row true o e = e
 room-row false o e = refl
 
 module _ (f : World) (n : ℕ) where
-  relay-rows : (s : ℕ) {x y z : Bool} (a : Answer Relay) → Own Relay x y z a → answer (relayDoes f n s a) ≡ firstOf ((x, 5) ∷ (y, 6) ∷ (z, 7) ∷ (not (relayRoom f s a), 8) ∷ [])
-  unfolding relayDoes
-  relay-rows s (refused not-now) now = refl
-  relay-rows s (refused not-yet) yet = refl
-  relay-rows s (refused worn) wear = refl
-  relay-rows s (does r ss e) deed = room-row (roomy f (outgoing s ss) && (leb (length (r .generators)) 8 && leb (length (r .transfers)) 8)) _ refl
+  relay-rows : (s : ℕ) (g t : Bool) {x y z : Bool} (a : Answer Relay) → Own Relay x y z a → Fits (relayAt f s) g t a
+      → answer (relayDoes f n s a) ≡ firstOf ((x, number not-now) ∷ (y, number not-yet) ∷ (z, number worn) ∷ (not (relayRoom f s g t a), number no-room) ∷ [])
+  unfolding relayDoes roomy
+  relay-rows s g t (refused not-now) now fits = refl
+  relay-rows s g t (refused not-yet) yet fits = refl
+  relay-rows s g t (refused worn) wear fits = refl
+  relay-rows s g t (does r ss e) deed fits =
+      rw (← fits .0, ← fits .1) (room-row (leb (length (outgoing s ss)) (freeIn (f .places)) && (leb (length (r .generators)) 8 && leb (length (r .transfers)) 8)) _ refl)
 
-  desk-rows : (d : ℕ) {x y z : Bool} (a : Answer Desk) → Own Desk x y z a → answer (deskDoes f n d a) ≡ firstOf ((x, 5) ∷ (y, 6) ∷ (z, 7) ∷ (not (deskRoom f d a), 8) ∷ [])
-  unfolding deskDoes
+  desk-rows : (d : ℕ) {x y z : Bool} (a : Answer Desk) → Own Desk x y z a → answer (deskDoes f n d a) ≡ firstOf ((x, number not-now) ∷ (y, number not-yet) ∷ (z, number worn) ∷ (not (deskRoom f d a), number no-room) ∷ [])
+  unfolding deskDoes roomy
   desk-rows d (refused not-now) now = refl
   desk-rows d (refused not-yet) yet = refl
   desk-rows d (refused worn) wear = refl
-  desk-rows d (does next ss e) deed = room-row (roomy f (outgoing (8 + d) ss)) _ refl
+  desk-rows d (does next ss e) deed = room-row (leb (length (outgoing (8 + d) ss)) (freeIn (f .places))) _ refl
 
 -- what a step at an actor that lives comes to
 abbrev rest : World → Act → List (Bool × ℕ)
-rest w a = (notNow w a, 5) ∷ (notYet w a, 6) ∷ (wornOut w a, 7) ∷ (not (room (ruling w a)), 8) ∷ []
+rest w a = (notNow w a, number not-now) ∷ (notYet w a, number not-yet) ∷ (wornOut w a, number worn) ∷ (not (room (ruling w a)), number no-room) ∷ []
 
-delivers-rows : (w : World) (p : ℕ) (m : Message) → answer (delivers (freed w p) m)
-    ≡ firstOf ((messageWaits w (waiting m), 6) ∷ (messageWears w (waiting m), 7) ∷ (not (room (heardBy (freed w p) m)), 8) ∷ [])
+delivers-rows : (w : World) (p : ℕ) (m : Message) → Few (relayAt w (m .to)) → answer (delivers (freed w p) m)
+    ≡ firstOf ((messageWaits w (waiting m), number not-yet) ∷ (messageWears w (waiting m), number worn) ∷ (not (room (heardBy (freed w p) m)), number no-room) ∷ [])
 unfolding delivers freed
-delivers-rows w p m = go (ltb (m .to) 8)
+delivers-rows w p m few = go (ltb (m .to) 8)
   where
     f : World
     f = freed w p
+
+    g : Bool
+    g = takesGenerator (m .to) (relayAt f (m .to)) (m .from) (m .body)
+
+    t : Bool
+    t = takesTransfer (m .to) (relayAt f (m .to)) (m .body)
 
     a : Answer Relay
     a = relayHears (m .to) (relayAt f (m .to)) (m .from) (m .body)
@@ -206,19 +219,19 @@ delivers-rows w p m = go (ltb (m .to) 8)
     d = deskHears (m .to - 8) (deskAt f (m .to - 8)) (m .from) (m .body)
 
     go : (b : Bool) → answer (if b then relayDoes f 1 (m .to) a else deskDoes f 1 (m .to - 8) d)
-        ≡ firstOf ((b && mustWait (m .to) (relayAt w (m .to)) (m .body), 6) ∷ (not b && replyWears (deskAt w (m .to - 8)) (m .from) (m .body), 7)
-        ∷ (not (room (if b then relayed f (m .to) a else desked f (m .to - 8) d)), 8) ∷ [])
-    go true = relay-rows f 1 (m .to) a (relay-own (m .to) _ (m .from) (m .body))
+        ≡ firstOf ((b && mustWait (m .to) (relayAt w (m .to)) (m .body), number not-yet) ∷ (not b && replyWears (deskAt w (m .to - 8)) (m .from) (m .body), 7)
+        ∷ (not (room (if b then relayed f (m .to) g t a else desked f (m .to - 8) d)), number no-room) ∷ [])
+    go true = relay-rows f 1 (m .to) g t a (relay-own (m .to) _ (m .from) (m .body)) (hears-fits (relayAt w (m .to)) few (m .to) (m .from) (m .body))
     go false = desk-rows f 1 (m .to - 8) d (desk-own (m .to - 8) _ (m .from) (m .body))
 
-delivery-rows : (w : World) (p : ℕ) (x : Place) → answer (delivery w p x)
-    ≡ firstOf ((isFree x, 3) ∷ (receiverDead w x, 4) ∷ (messageWaits w x, 6) ∷ (messageWears w x, 7) ∷ (not (room (delivered w p x)), 8) ∷ [])
+delivery-rows : (w : World) → ((s : ℕ) → Few (relayAt w s)) → (p : ℕ) (x : Place) → answer (delivery w p x)
+    ≡ firstOf ((isFree x, number empty) ∷ (receiverDead w x, number dead) ∷ (messageWaits w x, number not-yet) ∷ (messageWears w x, number worn) ∷ (not (room (delivered w p x)), number no-room) ∷ [])
 unfolding delivery
-delivery-rows w p free = refl
-delivery-rows w p (waiting m) =
-    alive-row w (m .to) _ ((messageWaits w (waiting m), 6) ∷ (messageWears w (waiting m), 7) ∷ (not (room (heardBy (freed w p) m)), 8) ∷ []) (delivers-rows w p m)
+delivery-rows w few p free = refl
+delivery-rows w few p (waiting m) =
+    alive-row w (m .to) _ ((messageWaits w (waiting m), number not-yet) ∷ (messageWears w (waiting m), number worn) ∷ (not (room (heardBy (freed w p) m)), number no-room) ∷ []) (delivers-rows w p m (few (m .to)))
 
-dropping-row : (w : World) (p : ℕ) (x : Place) → answer (dropping w p x) ≡ firstOf ((isFree x, 3) ∷ [])
+dropping-row : (w : World) (p : ℕ) (x : Place) → answer (dropping w p x) ≡ firstOf ((isFree x, number empty) ∷ [])
 unfolding dropping
 dropping-row w p free = refl
 dropping-row w p (waiting m) = refl
@@ -238,17 +251,17 @@ isBad (drop p) = false
 isBad (crash who) = false
 isBad bad = true
 
-acts-rows : (w : World) (a : Act) → answer (acts w a) ≡ firstOf ((isBad a, 2) ∷ further w a)
+acts-rows : (w : World) → ((s : ℕ) → Few (relayAt w s)) → (a : Act) → answer (acts w a) ≡ firstOf ((isBad a, number bad-step) ∷ further w a)
 unfolding acts
-acts-rows w (join s) = alive-row w s _ (rest w (join s)) (relay-rows w 0 s _ (join-own s (relayAt w s)))
-acts-rows w (leave s) = alive-row w s _ (rest w (leave s)) (relay-rows w 0 s _ (leave-own s (relayAt w s)))
-acts-rows w (timer s) = alive-row w s _ (rest w (timer s)) (relay-rows w 0 s _ (timer-own (relayAt w s)))
-acts-rows w (read n) = alive-row w (8 + n) _ (rest w (read n)) (desk-rows w 0 n _ (read-own (deskAt w n)))
-acts-rows w (write n x) = alive-row w (8 + n) _ (rest w (write n x)) (desk-rows w 0 n _ (write-own (deskAt w n) x))
-acts-rows w (deliver p) = delivery-rows w p (placeAt w p)
-acts-rows w (drop p) = dropping-row w p (placeAt w p)
-acts-rows w (crash who) = alive-row w who _ (rest w (crash who)) (crashing-row w who)
-acts-rows w bad = refl
+acts-rows w few (join s) = alive-row w s _ (rest w (join s)) (relay-rows w 0 s false false _ (join-own s (relayAt w s)) (join-fits (relayAt w s) (few s) s))
+acts-rows w few (leave s) = alive-row w s _ (rest w (leave s)) (relay-rows w 0 s false false _ (leave-own s (relayAt w s)) (leave-fits (relayAt w s) (few s) s))
+acts-rows w few (timer s) = alive-row w s _ (rest w (timer s)) (relay-rows w 0 s (lacksGenerator (relayAt w s) (relayAt w s .view)) false _ (timer-own (relayAt w s)) (timer-fits (relayAt w s) (few s)))
+acts-rows w few (read n) = alive-row w (8 + n) _ (rest w (read n)) (desk-rows w 0 n _ (read-own (deskAt w n)))
+acts-rows w few (write n x) = alive-row w (8 + n) _ (rest w (write n x)) (desk-rows w 0 n _ (write-own (deskAt w n) x))
+acts-rows w few (deliver p) = delivery-rows w few p (placeAt w p)
+acts-rows w few (drop p) = dropping-row w p (placeAt w p)
+acts-rows w few (crash who) = alive-row w who _ (rest w (crash who)) (crashing-row w who)
+acts-rows w few bad = refl
 
 -- what is told is bad exactly where the kind, the id or the value is out of range
 if-told : (b : Bool) (a : Act) → isBad a ≡ false → isBad (if b then a else bad) ≡ not b
@@ -274,7 +287,14 @@ in-range k = go (k .kind) (k .id) (k .value)
         let other : (i : ℕ) → i < 9 → eqb n i ≡ false = λ i h. ne-eqb n i (λ e. omega arith) in
         rw (other 1 (lit< tt), other 2 (lit< tt), other 3 (lit< tt), other 4 (lit< tt), other 5 (lit< tt), other 6 (lit< tt), other 7 (lit< tt), other 8 (lit< tt), le-ltb id 0 (omega arith))
 
--- the answer of every step is the first row of the table that applies
-pub first-applies : (w : World) (k : Step) → answer (stepped w k) ≡ firstOf (table w k)
+-- "up to 8 generators; up to 8 transfers"
+tables-few : (w : World) → wellFormed w ≡ true → (s : ℕ) → Few (relayAt w s)
+unfolding goodRelay goodGenerators goodTransfers
+tables-few w good s =
+    let h = hold-facts _ (relay-of w (good-facts w good) s) in
+    record { generators = leb-true _ _ (hold-facts _ (h .1 .1 .1 .1 .1 .1 .0) .0); transfers = leb-true _ _ (hold-facts _ (h .1 .1 .1 .1 .1 .1 .1 .0) .0) }
+
+-- the answer of every step of a good world is the first row of the table that applies
+pub first-applies : (w : World) → wellFormed w ≡ true → (k : Step) → answer (stepped w k) ≡ firstOf (table w k)
 unfolding stepped
-first-applies w k = acts-rows w (told k) ∙ ap (λ (b : Bool). firstOf ((b, 2) ∷ further w (told k))) (in-range k)
+first-applies w good k = acts-rows w (tables-few w good) (told k) ∙ ap (λ (b : Bool). firstOf ((b, number bad-step) ∷ further w (told k))) (in-range k)

@@ -9,6 +9,7 @@ pub mod Relays
 pub mod Desks
 pub mod Sending
 pub mod Steps
+pub mod Table
 pub mod WellFormed
 pub mod Image
 pub mod Lent

@@ -20,7 +20,7 @@ use Rattle.rules.specs.State.{Place, free, waiting, World, placeAt, withPlaces}
 use Rattle.rules.specs.Sending.{place, placeAll, freeIn}
 use Rattle.rules.specs.Steps.{freed}
 use Rattle.rules.specs.Image.{placeRow, rowBytes, placeBytes, image}
-use Rattle.rules.proofs.Table.{isFree}
+use Rattle.rules.specs.Table.{isFree}
 use Rattle.rules.proofs.Kept.{places-length}
 use Rattle.rules.proofs.ImageWidths.{length-place, length-image}
 use Rattle.rules.proofs.ImageRows.{row-of}

@@ -20,7 +20,7 @@ use Rattle.rules.specs.WellFormed.{goodBody, goodPlace}
 use Rattle.rules.specs.Image.{bodyIn, placeIn, rowAt, image, worldAt, goodBytes}
 use Rattle.rules.specs.Lent.{kept, left, lentStep}
 use Rattle.rules.proofs.Kept.{to-desk}
-use Rattle.rules.proofs.Table.{isFree}
+use Rattle.rules.specs.Table.{isFree}
 use Rattle.rules.proofs.ImageWorld.{good-image}
 use Rattle.state.specs.declared.Body as code-body
 use Rattle.state.specs.declared.Message as code-message

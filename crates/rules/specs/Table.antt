@@ -1,16 +1,18 @@
--- The table of answers, over any world and any step: rows 2 to 7 with document 01's own conditions, row 8, NO ROOM, by what the rule would send and take.
--- That the rules answer by it is in Order.antt. Assumes nothing.
+-- The table of answers, rows 2 to 8, over a world and a step, each row with document 01's own condition. That the rules answer by it is proofs/Order.
+-- Assumes nothing.
 use mathlib.Core.Bool.{Bool, true, false, not}
 use mathlib.Core.List.{List, [], _∷_}
 use Prim.Native.Nat.{ℕ, _+_, _-_}
 use lib.Dec.{eqb, leb, ltb}
 use lib.ListN.{length, getD}
-use Rattle.rules.specs.Sets.{_&&_, _||_, if_then_else_, within, member, reaches, inside, joins}
-use Rattle.rules.specs.Messages.{Body, request, view, proposal, converged, install, state, get, put, viewReply, pairReply, ack, Message, outgoing, Answer, refused, does}
-use Rattle.rules.specs.State.{Desk, Phase, Idle, Read1, Read2, Write1, Write2, Relay, Place, free, waiting, World, relayAt, deskAt, placeAt}
-use Rattle.rules.specs.Relays.{joinAsked, leaveAsked, timerRang, relayHears}
+use Rattle.rules.specs.Sets.{_&&_, _||_, if_then_else_, within, member, reaches, inside, joins, none, all}
+use Rattle.rules.specs.Messages.{Body, request, view, proposal, converged, install, state, get, put, viewReply, pairReply, ack, Message, outgoing, bad-step, empty, dead, not-now, not-yet, worn, no-room, number, Answer, refused, does}
+use Rattle.rules.specs.State.{Desk, Phase, Idle, Read1, Read2, Write1, Write2, Transfer, Relay, Place, free, waiting, World, relayAt, deskAt, placeAt}
+use Rattle.rules.specs.Sending.{freeIn}
+use Rattle.rules.specs.Generators.{oneIf}
+use Rattle.rules.specs.Relays.{joinAsked, leaveAsked, timerRang, isFor, transferFor, keeps, gathers, passes, onward, relayHears}
 use Rattle.rules.specs.Desks.{isIdle, isFirst, isSecond, full, notesPair, notesAck, readAsked, writeAsked, current, deskHears}
-use Rattle.rules.specs.Steps.{Step, told, Act, join, leave, timer, read, write, deliver, drop, crash, bad, roomy, aliveIn, freed}
+use Rattle.rules.specs.Steps.{Step, told, Act, join, leave, timer, read, write, deliver, drop, crash, bad, aliveIn, freed}
 
 -- the number of the first row that applies; 0, done, where none does
 abbrev pub firstOf : List (Bool × ℕ) → ℕ
@@ -142,28 +144,75 @@ wornOut w (drop p) = false
 wornOut w (crash who) = false
 wornOut w bad = false
 
--- the rule that the step comes to: what it answers, and the world whose room counts
+-- ---- NO ROOM: "the step needs more messages, generators or transfers than are free at its begin, its own delivered place counted as free"
+
+-- "A generator or transfer that a rule notes into, proposes with or keeps an install in is taken if absent, and at no other time."
+abbrev pub lacksGenerator : Relay → ℕ → Bool
+lacksGenerator r v = all (λ g. not (eqb (g .view) v)) (r .generators)
+
+abbrev pub lacksTransfer : Relay → ℕ → ℕ → Bool
+lacksTransfer r o w = all (λ t. not (isFor o w t)) (r .transfers)
+
+-- the entry test with this transfer makes the relay propose: it passes, and its sequence has views above the new one
+abbrev pub proposesOn : Transfer → Bool
+proposesOn t = passes t && not (none (onward t))
+
+-- "If its view is inside w and it is a member of w, the transfer keeps q"
+abbrev pub keepsIn : ℕ → Relay → ℕ → Bool
+keepsIn s r w = inside (r .view) w && member w s
+
+-- the message takes a generator: it is noted into one, or leads to a proposal with one, that is absent
+abbrev pub takesGenerator : ℕ → Relay → ℕ → Body → Bool
+takesGenerator s r from (proposal v q) = lacksGenerator r v
+takesGenerator s r from (converged v q) = lacksGenerator r v
+takesGenerator s r from (install o w q) = keepsIn s r w && (proposesOn (keeps (transferFor o w (r .transfers)) q) && lacksGenerator r w)
+takesGenerator s r from (state o w p u) = inside (r .view) w && (proposesOn (gathers (transferFor o w (r .transfers)) from p u) && lacksGenerator r w)
+takesGenerator s r from (request u c) = false
+takesGenerator s r from (view v) = false
+takesGenerator s r from (get try c) = false
+takesGenerator s r from (put try c p) = false
+takesGenerator s r from (viewReply try v) = false
+takesGenerator s r from (pairReply try p) = false
+takesGenerator s r from (ack try) = false
+
+-- it takes a transfer: an install is kept in one, or state noted into one, that is absent
+abbrev pub takesTransfer : ℕ → Relay → Body → Bool
+takesTransfer s r (install o w q) = keepsIn s r w && lacksTransfer r o w
+takesTransfer s r (state o w p u) = inside (r .view) w && lacksTransfer r o w
+takesTransfer s r (request u c) = false
+takesTransfer s r (view v) = false
+takesTransfer s r (proposal v q) = false
+takesTransfer s r (converged v q) = false
+takesTransfer s r (get try c) = false
+takesTransfer s r (put try c p) = false
+takesTransfer s r (viewReply try v) = false
+takesTransfer s r (pairReply try p) = false
+takesTransfer s r (ack try) = false
+
+-- the rule that the step comes to: the world at its begin, who answers, whether a generator and a transfer are taken, and what is answered
 pub data Ruling : Type 0 where
-  relayed : World → (s : ℕ) → Answer Relay → Ruling
+  relayed : World → (s : ℕ) → (generator transfer : Bool) → Answer Relay → Ruling
   desked : World → (n : ℕ) → Answer Desk → Ruling
   -- DROP and CRASH come to none
   unruled : Ruling
 
--- "its own delivered place counted as free"
+-- "its own delivered place counted as free": f is the world with that place free
 abbrev pub heardBy : World → Message → Ruling
 heardBy f m =
     if ltb (m .to) 8
-    then relayed f (m .to) (relayHears (m .to) (relayAt f (m .to)) (m .from) (m .body))
+    then relayed f (m .to) (takesGenerator (m .to) (relayAt f (m .to)) (m .from) (m .body)) (takesTransfer (m .to) (relayAt f (m .to)) (m .body))
+    (relayHears (m .to) (relayAt f (m .to)) (m .from) (m .body))
     else desked f (m .to - 8) (deskHears (m .to - 8) (deskAt f (m .to - 8)) (m .from) (m .body))
 
 abbrev pub delivered : World → ℕ → Place → Ruling
 delivered w p free = unruled
 delivered w p (waiting m) = heardBy (freed w p) m
 
+-- TIMER proposes with the generator of the relay's view
 abbrev pub ruling : World → Act → Ruling
-ruling w (join s) = relayed w s (joinAsked s (relayAt w s))
-ruling w (leave s) = relayed w s (leaveAsked s (relayAt w s))
-ruling w (timer s) = relayed w s (timerRang (relayAt w s))
+ruling w (join s) = relayed w s false false (joinAsked s (relayAt w s))
+ruling w (leave s) = relayed w s false false (leaveAsked s (relayAt w s))
+ruling w (timer s) = relayed w s (lacksGenerator (relayAt w s) (relayAt w s .view)) false (timerRang (relayAt w s))
 ruling w (read n) = desked w n (readAsked (deskAt w n))
 ruling w (write n x) = desked w n (writeAsked (deskAt w n) x)
 ruling w (deliver p) = delivered w p (placeAt w p)
@@ -171,23 +220,32 @@ ruling w (drop p) = unruled
 ruling w (crash who) = unruled
 ruling w bad = unruled
 
--- "more messages, generators or transfers than are free"
-abbrev pub relayRoom : World → ℕ → Answer Relay → Bool
-relayRoom f s (refused x) = true
-relayRoom f s (does r ss e) = roomy f (outgoing s ss) && (leb (length (r .generators)) 8 && leb (length (r .transfers)) 8)
+-- as many as the step needs are free at its begin: of the 256 places, and of the relay's "up to 8 generators; up to 8 transfers"
+abbrev pub placesFor : World → ℕ → Bool
+placesFor f n = leb n (freeIn (f .places))
+
+abbrev pub generatorsFor : Relay → Bool → Bool
+generatorsFor r taken = leb (oneIf taken) (8 - length (r .generators))
+
+abbrev pub transfersFor : Relay → Bool → Bool
+transfersFor r taken = leb (oneIf taken) (8 - length (r .transfers))
+
+abbrev pub relayRoom : World → ℕ → Bool → Bool → Answer Relay → Bool
+relayRoom f s g t (refused x) = true
+relayRoom f s g t (does r ss e) = placesFor f (length (outgoing s ss)) && (generatorsFor (relayAt f s) g && transfersFor (relayAt f s) t)
 
 abbrev pub deskRoom : World → ℕ → Answer Desk → Bool
 deskRoom f d (refused x) = true
-deskRoom f d (does next ss e) = roomy f (outgoing (8 + d) ss)
+deskRoom f d (does next ss e) = placesFor f (length (outgoing (8 + d) ss))
 
 abbrev pub room : Ruling → Bool
-room (relayed f s a) = relayRoom f s a
+room (relayed f s g t a) = relayRoom f s g t a
 room (desked f d a) = deskRoom f d a
 room unruled = true
 
 -- rows 3 to 8, of a step in range
 abbrev pub further : World → Act → List (Bool × ℕ)
-further w a = (emptyPlace w a, 3) ∷ (deadOne w a, 4) ∷ (notNow w a, 5) ∷ (notYet w a, 6) ∷ (wornOut w a, 7) ∷ (not (room (ruling w a)), 8) ∷ []
+further w a = (emptyPlace w a, number empty) ∷ (deadOne w a, number dead) ∷ (notNow w a, number not-now) ∷ (notYet w a, number not-yet) ∷ (wornOut w a, number worn) ∷ (not (room (ruling w a)), number no-room) ∷ []
 
 abbrev pub table : World → Step → List (Bool × ℕ)
-table w k = (outOfRange k, 2) ∷ further w (told k)
+table w k = (outOfRange k, number bad-step) ∷ further w (told k)
