@@ -15,6 +15,7 @@ pub mod Sheets
 pub mod Rooms
 pub mod Taken
 pub mod Mistakes
+pub mod Busy
 pub mod Worked
 pub mod ImageWidths
 pub mod ImageFits

@@ -19,7 +19,7 @@ use Rattle.rules.specs.Desks.{isIdle, isFirst, isSecond, full, cleared, 
 use Rattle.rules.specs.Steps.{Step, Act, join, leave, timer, read, write, deliver, drop, crash, bad, told, Outcome, refusal, roomy, relayDoes, deskDoes, aliveIn, ifAlive, freed, delivers, delivery, dropping, crashing, acts, stepped}
 use Rattle.rules.specs.WellFormed.{goodGenerators, goodTransfers, goodRelay, wellFormed}
 use Rattle.rules.specs.Runs.{answer}
-use Rattle.rules.specs.Table.{firstOf, outOfRange, further, isFree, isDead, receiverDead, notNow, mustWait, messageWaits, notYet, phaseWears, quorumWears, replyWears, messageWears, wornOut, lacksGenerator, takesGenerator, takesTransfer, generatorsFor, transfersFor, heardBy, delivered, ruling, relayRoom, deskRoom, room, table, relayed, desked}
+use Rattle.rules.specs.Table.{firstOf, outOfRange, further, isFree, isDead, receiverDead, notNow, mustWait, messageWaits, notYet, phaseWears, quorumWears, replyWears, messageWears, wornOut, lacksGenerator, takesGenerator, takesTransfer, heardBy, delivered, ruling, relayRoom, deskRoom, room, table, relayed, desked}
 use Rattle.rules.proofs.Taken.{Fits, Few, join-fits, leave-fits, timer-fits, hears-fits}
 use Rattle.rules.proofs.Hold.{hold-facts}
 use Rattle.rules.proofs.Kept.{good-facts, relay-of}

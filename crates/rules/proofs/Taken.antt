@@ -1,8 +1,8 @@
 -- What a rule leaves of a relay's generators and transfers fits into eight places of each exactly where as many as it takes were free at its begin (specs/Table):
 -- a transfer just taken never passes the entry test (Rooms), so no rule both takes and frees. Assumes nothing.
 use mathlib.Core.Path.{_≡_, refl, sym, ap, subst, _∙_}
-use mathlib.Core.Bool.{Bool, true, false, not, and-eq-true-iff}
-use mathlib.Core.List.{List, [], _∷_, _++_}
+use mathlib.Core.Bool.{Bool, true, false, not}
+use mathlib.Core.List.{List, [], _∷_}
 use Prim.Native.Nat.{ℕ, _+_, _-_, _≤_}
 use native.Mathlib.Omega.{arith}
 use lib.Dec.{eqb, leb}
@@ -15,7 +15,7 @@ use Rattle.rules.specs.Messages.{Body, request, view, proposal, converge
 use Rattle.rules.specs.State.{Generator, Transfer, Relay, withKnown, withPending, withActive, withHolds, withGenerators, withTransfers}
 use Rattle.rules.specs.Generators.{generatorFor, putGenerator, Turn, oneIf, proposes}
 use Rattle.rules.specs.Relays.{atGenerator, joinAsked, leaveAsked, timerRang, requestHeard, learns, freshTransfer, isFor, transferFor, putTransfer, keeps, gathers, passes, moved, onward, enters, tested, early, stopped, handed, takesInstall, sentFirst, installHeard, stateHeard, serves, getHeard, putHeard, relayHears}
-use Rattle.rules.specs.Table.{lacksGenerator, lacksTransfer, proposesOn, keepsIn, takesGenerator, takesTransfer, generatorsFor, transfersFor}
+use Rattle.rules.specs.Table.{lacksGenerator, lacksTransfer, proposesOn, takesGenerator, takesTransfer, generatorsFor, transfersFor}
 use Rattle.rules.proofs.Hold.{all-parts, put-length}
 use Rattle.rules.proofs.Lists.{those-fewer}
 use Rattle.rules.proofs.Generators.{view-of, proposes-leaves, converged-leaves, proposal-leaves}
