@@ -2,6 +2,9 @@
 
 -- "Two results that satisfy one promise are proved equal"
 pub mod Determined
+-- what a parameter of a type can be
+pub mod Typed
+pub mod ImageTyped
 -- wrong programs that the promises rule out
 pub mod Differ
 pub mod RuledOut

@@ -5,6 +5,7 @@ use mathlib.Core.Bool.{true, false}
 use mathlib.Core.List.{List}
 use Prim.Native.Nat.{ℕ}
 use native.Mathlib.Omega.{arith}
+use lib.Dec.{T}
 use lib.ListN.{length, getD, set, length-set}
 use lib.Seq.{getD-set-same}
 use Rattle.rows.specs.Bytes.{run, zeros}
@@ -20,6 +21,8 @@ use Rattle.rules.proofs.Starts.{start-good}
 use Rattle.rules.proofs.ImageWidths.{world-widths, length-image}
 use Rattle.rules.proofs.ImageWorld.{world-back, image-good, good-image}
 use Rattle.views.proofs.Truth.{never-true}
+use Rattle.certificate.proofs.Typed.{in-bytes}
+use Rattle.certificate.proofs.ImageTyped.{image-bytes, changed-bytes}
 
 -- the starts of relay 0 alone and of relay 1 alone
 abbrev pub one : List ℕ
@@ -36,6 +39,12 @@ two-formed = start-good 2 (omega arith) (omega arith)
 
 pub one-good : goodBytes one ≡ true
 one-good = image-good (start 1) one-formed
+
+pub one-bytes : T (in-bytes one)
+one-bytes = image-bytes (start 1) one-formed
+
+pub two-bytes : T (in-bytes two)
+two-bytes = image-bytes (start 2) two-formed
 
 -- WRITE 0 77; DELIVER 0
 abbrev pub write : Step
@@ -60,6 +69,9 @@ soiled = set one 64256 1
 
 pub soiled-long : length soiled ≡ 65536
 soiled-long = length-set one 64256 1 ∙ length-image (start 1)
+
+pub soiled-bytes : T (in-bytes soiled)
+soiled-bytes = changed-bytes (start 1) one-formed 64256 1 (omega arith)
 
 room-zero : (W : World) → getD (image W) 64256 0 ≡ 0
 unfolding image zeros run
