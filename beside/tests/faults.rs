@@ -5,6 +5,9 @@ use beside::stub::{set, Fault};
 use beside::tally::Tally;
 use beside::{by_hand, damaged, edges, made, sheets};
 
+/// How many faults the stub has: a list that lost one would find one less.
+const FAULTS: usize = 21;
+
 fn failures(fault: Option<Fault>) -> (usize, usize) {
     set(fault);
     let mut tally = Tally::quiet();
@@ -29,6 +32,7 @@ fn the_stub_passes() {
 
 #[test]
 fn each_fault_is_found() {
+    assert_eq!(Fault::ALL.len(), FAULTS);
     for &fault in Fault::ALL {
         let (passed, failed) = failures(Some(fault));
         println!("{}: {passed} passed, {failed} failed", fault.name());
