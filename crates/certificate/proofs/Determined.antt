@@ -8,7 +8,7 @@ use mathlib.Core.Path.{_≡_, refl, sym, ap, _∙_}
 use mathlib.Core.List.{List, [], _∷_}
 use Prim.Native.Nat.{ℕ, _+_, _≤_, min}
 use lib.Bits.{bitOr}
-use lib.Dec.{leb}
+use lib.Dec.{eqb, leb}
 use lib.ListN.{length, getD, set}
 use denote.Ref.{RefT, now}
 use Rattle.views.specs.View.{membersOf, memberOf, quorumOf, reachesOf, withinOf, insideOf, clashOf}
@@ -30,6 +30,8 @@ use Rattle.rules.specs.Desks.{begun, ended}
 use Rattle.rules.specs.Desks as desks
 use Rattle.rules.specs.Image.{bodyRow, sequenceBytes, sequenceAt, pairAt, headBytes, generatorBytes, generatorAt, transferBytes, transferAt, deskBytes, deskAt, rowBytes, rowAt, goodBytes}
 use Rattle.rules.specs.Lent.{Lent, lentStart, lentStep}
+use Rattle.rules.specs.Sets.{if_then_else_}
+use Rattle.rules.specs.Sheets as sheets
 use Rattle.rules.specs.Runs.{decimal, line, fields, startOf, endOf, badOf}
 use Rattle.rules.specs.declared.Desk.{Desk}
 use Rattle.rules.specs.declared.Phase.{Phase}
@@ -49,7 +51,9 @@ use Rattle.relay.specs.Fitting.{joinAnswer, timerAnswer, hearsAnswer}
 use Rattle.desk.specs.Replies.{replyNoted}
 use Rattle.image.specs.Parts.{notesBytes, notesAt, headAt, messageRow}
 use Rattle.sheet.specs.Reading.{checkOf, stepAt, afterOf, takenAt}
-use Rattle.sheet.specs.Writing.{listed, writtenOf, leftOf}
+use Rattle.sheet.specs.Writing.{ruled, ruledSize, bufferOf, numberOf, sizeOf}
+use Rattle.sheet.specs.declared.Written.{Written}
+use Rattle.sheet.specs.declared.Written.the-variants.{Done, BadSheet, NoRoom}
 use Rattle.sheet.specs.declared.reader.Reader.{Reader}
 use Rattle.record.specs.Lines.{laid, past, stepOf}
 use Rattle.world.specs.Answer.{reportOf, lentOf}
@@ -58,7 +62,7 @@ use Rattle.world.specs.declared.Answer.{Answer}
 use Rattle.world.specs.declared.Report.{Report}
 use Rattle.world.specs.declared.Report.the-variants.{Nothing, Opened, ReadDone, WriteDone}
 use Rattle.world.specs.declared.run.Columns.{Columns}
-use Rattle.engine.specs.Told.{goodNumber, toldBytes, toldOf}
+use Rattle.engine.specs.Told.{goodNumber, sheetNumber, toldStep, toldRehearsal}
 
 -- whatever satisfies P is equal
 abbrev pub Determined : {A : Type 0} → (A → Type 0) → Type 0
@@ -373,11 +377,23 @@ sheet-step-at b at = by-equation (stepAt b at)
 pub sheet-after : (b : List ℕ) (at : ℕ) → Determined (λ r. r ≡ afterOf b at)
 sheet-after b at = by-equation (afterOf b at)
 
-pub sheet-write-answer : (buf : List ℕ) (mask : ℕ) (kinds ids values : List ℕ) → Determined (λ r. r ≡ writtenOf buf mask (listed kinds ids values))
-sheet-write-answer buf mask kinds ids values = by-equation (writtenOf buf mask (listed kinds ids values))
+-- the answer with this number, of a sheet of this many bytes
+writtenFor : ℕ → ℕ → Written
+writtenFor n size = if eqb n 0 then Done size else if eqb n 8 then NoRoom else BadSheet
 
-pub sheet-write-left : (buf : List ℕ) (mask : ℕ) (kinds ids values : List ℕ) → Determined (λ b. b ≡ leftOf buf mask (listed kinds ids values))
-sheet-write-left buf mask kinds ids values = by-equation (leftOf buf mask (listed kinds ids values))
+written-back : (r : Written) → writtenFor (numberOf r) (sizeOf r) ≡ r
+unfolding writtenFor
+written-back (Done n) = refl
+written-back NoRoom = refl
+written-back BadSheet = refl
+
+pub sheet-write-answer : (buf : List ℕ) (mask : ℕ) (kinds ids values : List ℕ)
+    → Determined (λ r. (numberOf r ≡ sheets.number (ruled buf mask kinds ids values)) × (sizeOf r ≡ ruledSize buf mask kinds ids values))
+sheet-write-answer buf mask kinds ids values r s e f =
+    sym (written-back r) ∙ (λ i. writtenFor ((e .0 ∙ sym (f .0)) i) ((e .1 ∙ sym (f .1)) i)) ∙ written-back s
+
+pub sheet-write-left : (buf : List ℕ) (mask : ℕ) (kinds ids values : List ℕ) → Determined (λ b. b ≡ bufferOf buf (ruled buf mask kinds ids values))
+sheet-write-left buf mask kinds ids values = by-equation (bufferOf buf (ruled buf mask kinds ids values))
 
 reader-back : (r s : Reader) → r .sheet ≡ s .sheet → r .at ≡ s .at → r ≡ s
 reader-back r s e f = λ i. record { sheet = e i; at = f i }
@@ -497,7 +513,7 @@ world-rehearse-last sheet world = by-equation (worldLeft sheet world)
 pub world-rehearse-printed : (sheet world out : List ℕ) → Determined (λ b. b ≡ recordLeft sheet world out)
 world-rehearse-printed sheet world out = by-equation (recordLeft sheet world out)
 
--- ---- engine; the answer, the world and the columns, each with a promise of its own
+-- ---- engine; the answer and each buffer that is lent, each with a promise of its own
 
 pub engine-world-good : (w : List ℕ) → Determined (λ r. r ≡ goodNumber w)
 engine-world-good w = by-equation (goodNumber w)
@@ -508,11 +524,32 @@ engine-world-start-answer w mask = by-equation (lentStart w mask .answer)
 pub engine-world-start-buffer : (w : List ℕ) (mask : ℕ) → Determined (λ b. b ≡ lentStart w mask .buffer)
 engine-world-start-buffer w mask = by-equation (lentStart w mask .buffer)
 
-pub engine-world-step-answer : (w : List ℕ) (kind id value : ℕ) → Determined (λ r. r ≡ lentStep w (record { kind = kind; id = id; value = value }) .answer)
-engine-world-step-answer w kind id value = by-equation (lentStep w (record { kind = kind; id = id; value = value }) .answer)
+pub engine-world-step-answer : (w told : List ℕ) (kind id value : ℕ) → Determined (λ r. r ≡ toldStep w kind id value told .answer)
+engine-world-step-answer w told kind id value = by-equation (toldStep w kind id value told .answer)
 
-pub engine-world-step-buffer : (w : List ℕ) (kind id value : ℕ) → Determined (λ b. b ≡ lentStep w (record { kind = kind; id = id; value = value }) .buffer)
-engine-world-step-buffer w kind id value = by-equation (lentStep w (record { kind = kind; id = id; value = value }) .buffer)
+pub engine-world-step-buffer : (w told : List ℕ) (kind id value : ℕ) → Determined (λ b. b ≡ toldStep w kind id value told .buffer)
+engine-world-step-buffer w told kind id value = by-equation (toldStep w kind id value told .buffer)
 
-pub engine-world-step-columns : (w told : List ℕ) (kind id value : ℕ) → Determined (λ b. b ≡ placed told 0 (toldBytes (toldOf (lentStep w (record { kind = kind; id = id; value = value })))))
-engine-world-step-columns w told kind id value = by-equation (placed told 0 (toldBytes (toldOf (lentStep w (record { kind = kind; id = id; value = value })))))
+pub engine-world-step-columns : (w told : List ℕ) (kind id value : ℕ) → Determined (λ b. b ≡ toldStep w kind id value told .told)
+engine-world-step-columns w told kind id value = by-equation (toldStep w kind id value told .told)
+
+pub engine-sheet-check : (sheet : List ℕ) → Determined (λ r. r ≡ sheetNumber sheet)
+engine-sheet-check sheet = by-equation (sheetNumber sheet)
+
+pub engine-sheet-write-answer : (buf : List ℕ) (mask : ℕ) (kinds ids values : List ℕ) → Determined (λ r. r ≡ sheets.number (ruled buf mask kinds ids values))
+engine-sheet-write-answer buf mask kinds ids values = by-equation (sheets.number (ruled buf mask kinds ids values))
+
+pub engine-sheet-write-left : (buf : List ℕ) (mask : ℕ) (kinds ids values : List ℕ) → Determined (λ b. b ≡ bufferOf buf (ruled buf mask kinds ids values))
+engine-sheet-write-left = sheet-write-left
+
+pub engine-sheet-rehearse-answer : (sheet world out told : List ℕ) → Determined (λ r. r ≡ toldRehearsal sheet world out told .answer)
+engine-sheet-rehearse-answer sheet world out told = by-equation (toldRehearsal sheet world out told .answer)
+
+pub engine-sheet-rehearse-last : (sheet world out told : List ℕ) → Determined (λ b. b ≡ toldRehearsal sheet world out told .last)
+engine-sheet-rehearse-last sheet world out told = by-equation (toldRehearsal sheet world out told .last)
+
+pub engine-sheet-rehearse-printed : (sheet world out told : List ℕ) → Determined (λ b. b ≡ toldRehearsal sheet world out told .printed)
+engine-sheet-rehearse-printed sheet world out told = by-equation (toldRehearsal sheet world out told .printed)
+
+pub engine-sheet-rehearse-length : (sheet world out told : List ℕ) → Determined (λ b. b ≡ toldRehearsal sheet world out told .told)
+engine-sheet-rehearse-length sheet world out told = by-equation (toldRehearsal sheet world out told .told)

@@ -8,16 +8,17 @@ use lib.ListN.{length, getD, set, take, drop, replicate}
 use denote.Ref.{RefT, now}
 use Rattle.rows.specs.Bytes.{numberAt, run, zeros}
 use Rattle.rules.specs.Sets.{if_then_else_}
-use Rattle.rules.specs.Sheets.{mark, stepIn, stepsOf, allZerosIn, badSheet, stepsBytes, sheetBytes, written}
+use Rattle.rules.specs.Sheets.{mark, stepIn, stepsOf, allZerosIn, badSheet, stepsBytes, sheetBytes, number, written}
 use Rattle.rules.specs.Runs.{digits, decimal, line, start-word, bad-word, startOf, endOf, badOf}
 use Rattle.sheet.specs.Reading.{checkOf, stepAt, afterOf, takenAt}
-use Rattle.sheet.specs.Writing.{listed, numberOf, writtenOf, leftOf}
+use Rattle.sheet.specs.Writing.{listed, ruled, ruledSize, bufferOf, numberOf, sizeOf}
 use Rattle.sheet.specs.declared.Sheet.{Sheet}
 use Rattle.sheet.specs.declared.Found.{Found}
 use Rattle.sheet.specs.declared.Found.the-variants.{At, End}
 use Rattle.sheet.specs.declared.reader.Reader.{Reader}
 use Rattle.sheet.specs.declared.reader.Taken.{Taken}
-use Rattle.sheet.specs.declared.Written.the-variants.{Done, NoRoom}
+use Rattle.sheet.specs.declared.Written.{Written}
+use Rattle.sheet.specs.declared.Written.the-variants.{Done, BadSheet, NoRoom}
 use Rattle.record.specs.Lines.{laid, past, stepOf}
 use Rattle.certificate.proofs.Differ.{differ, itself, truth, entry}
 
@@ -63,21 +64,56 @@ pub sheet-after-past-the-end : ¬ ((b : List ℕ) (at : ℕ) → at + 8 ≡ afte
 unfolding afterOf
 sheet-after-past-the-end p = differ itself (p steps 16) tt
 
-pub sheet-write-answer-done-always : ¬ ((buf : List ℕ) (mask : ℕ) (kinds ids values : List ℕ) → Done (length (sheetBytes mask (listed kinds ids values))) ≡ writtenOf buf mask (listed kinds ids values))
-unfolding stepsBytes sheetBytes written listed writtenOf
-sheet-write-answer-done-always p = differ numberOf (p [] 1 [] [] []) tt
+-- programs that answer as for the list, which is as long as the shortest of the three
+abbrev sizes : ℕ → List ℕ → List ℕ → List ℕ → ℕ
+sizes mask kinds ids values = length (sheetBytes mask (listed kinds ids values))
 
-pub sheet-write-answer-no-room-before-bad-sheet : ¬ ((buf : List ℕ) (mask : ℕ) (kinds ids values : List ℕ) → (if ltb (length buf) (length (sheetBytes mask (listed kinds ids values))) then NoRoom else writtenOf buf mask (listed kinds ids values)) ≡ writtenOf buf mask (listed kinds ids values))
-unfolding stepsBytes sheetBytes written listed writtenOf
-sheet-write-answer-no-room-before-bad-sheet p = differ numberOf (p [] 0 [] [] []) tt
+abbrev shortest : List ℕ → ℕ → List ℕ → List ℕ → List ℕ → Written
+shortest buf mask kinds ids values =
+    if eqb mask 0 then BadSheet else if ltb (length buf) (sizes mask kinds ids values) then NoRoom else Done (sizes mask kinds ids values)
 
-pub sheet-write-left-as-it-was : ¬ ((buf : List ℕ) (mask : ℕ) (kinds ids values : List ℕ) → buf ≡ leftOf buf mask (listed kinds ids values))
-unfolding stepsBytes sheetBytes written listed leftOf
+-- NO ROOM first
+abbrev roomFirst : List ℕ → ℕ → List ℕ → List ℕ → List ℕ → Written
+roomFirst buf mask kinds ids values = if ltb (length buf) (sizes mask kinds ids values) then NoRoom else shortest buf mask kinds ids values
+
+pub sheet-write-answer-done-always : ¬ ((buf : List ℕ) (mask : ℕ) (kinds ids values : List ℕ)
+    → (numberOf (Done (sizes mask kinds ids values)) ≡ number (ruled buf mask kinds ids values))
+    × (sizeOf (Done (sizes mask kinds ids values)) ≡ ruledSize buf mask kinds ids values))
+unfolding stepsBytes sheetBytes written listed ruled
+sheet-write-answer-done-always p = differ itself (p [] 1 [] [] [] .0) tt
+
+pub sheet-write-answer-no-room-before-bad-sheet : ¬ ((buf : List ℕ) (mask : ℕ) (kinds ids values : List ℕ)
+    → (numberOf (roomFirst buf mask kinds ids values) ≡ number (ruled buf mask kinds ids values))
+    × (sizeOf (roomFirst buf mask kinds ids values) ≡ ruledSize buf mask kinds ids values))
+unfolding stepsBytes sheetBytes written listed ruled
+sheet-write-answer-no-room-before-bad-sheet p = differ itself (p [] 0 [] [] [] .0) tt
+
+-- a kind and an id without a value
+pub sheet-write-answer-the-shortest-counts : ¬ ((buf : List ℕ) (mask : ℕ) (kinds ids values : List ℕ)
+    → (numberOf (shortest buf mask kinds ids values) ≡ number (ruled buf mask kinds ids values))
+    × (sizeOf (shortest buf mask kinds ids values) ≡ ruledSize buf mask kinds ids values))
+unfolding stepsBytes sheetBytes written listed ruled
+sheet-write-answer-the-shortest-counts p = differ itself (p (replicate 7 9) 1 (5 ∷ []) (0 ∷ []) [] .0) tt
+
+pub sheet-write-answer-size-of-the-buffer : ¬ ((buf : List ℕ) (mask : ℕ) (kinds ids values : List ℕ)
+    → (numberOf (if ltb (length buf) 6 then NoRoom else Done (length buf)) ≡ number (ruled buf mask kinds ids values))
+    × (sizeOf (if ltb (length buf) 6 then NoRoom else Done (length buf)) ≡ ruledSize buf mask kinds ids values))
+unfolding stepsBytes sheetBytes written listed ruled ruledSize
+sheet-write-answer-size-of-the-buffer p = differ itself (p (replicate 7 9) 1 [] [] [] .1) tt
+
+pub sheet-write-left-as-it-was : ¬ ((buf : List ℕ) (mask : ℕ) (kinds ids values : List ℕ) → buf ≡ bufferOf buf (ruled buf mask kinds ids values))
+unfolding stepsBytes sheetBytes written listed ruled
 sheet-write-left-as-it-was p = differ (entry 0) (p (replicate 7 9) 1 [] [] []) tt
 
-pub sheet-write-left-cleared-past-the-sheet : ¬ ((buf : List ℕ) (mask : ℕ) (kinds ids values : List ℕ) → laid (zeros (length buf)) 0 (sheetBytes mask (listed kinds ids values)) ≡ leftOf buf mask (listed kinds ids values))
-unfolding run zeros laid stepsBytes sheetBytes written listed leftOf
+pub sheet-write-left-cleared-past-the-sheet : ¬ ((buf : List ℕ) (mask : ℕ) (kinds ids values : List ℕ)
+    → laid (zeros (length buf)) 0 (sheetBytes mask (listed kinds ids values)) ≡ bufferOf buf (ruled buf mask kinds ids values))
+unfolding run zeros laid stepsBytes sheetBytes written listed ruled
 sheet-write-left-cleared-past-the-sheet p = differ (entry 6) (p (replicate 7 9) 1 [] [] []) tt
+
+pub sheet-write-left-the-shortest-written : ¬ ((buf : List ℕ) (mask : ℕ) (kinds ids values : List ℕ)
+    → bufferOf buf (written buf mask (listed kinds ids values)) ≡ bufferOf buf (ruled buf mask kinds ids values))
+unfolding stepsBytes sheetBytes written listed ruled
+sheet-write-left-the-shortest-written p = differ (entry 0) (p (replicate 7 9) 1 (5 ∷ []) (0 ∷ []) []) tt
 
 -- a reader over bytes that stand somewhere, and the sheet of the two steps with mask 1
 abbrev reader : RefT (List ℕ) → ℕ → Reader

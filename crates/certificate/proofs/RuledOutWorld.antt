@@ -5,7 +5,7 @@ use mathlib.Core.List.{List, [], _∷_, _++_}
 use Prim.Native.Nat.{ℕ}
 use lib.Dec.{eqb, ltb}
 use lib.ListN.{length, getD, drop, replicate}
-use Rattle.rows.specs.Bytes.{numberAt, splice, placed, bytesOf, run, cat, zeros}
+use Rattle.rows.specs.Bytes.{numberAt, splice, placed, bytesOf, be32, run, cat, zeros}
 use Rattle.rules.specs.Sets.{if_then_else_}
 use Rattle.rules.specs.State.{World, noRelay, start}
 use Rattle.rules.specs.Sending.{waitingIn}
@@ -13,20 +13,22 @@ use Rattle.rules.specs.WellFormed.{wellFormed}
 use Rattle.rules.specs.declared.Step.{Step}
 use Rattle.rules.specs.Steps.{after, stepped}
 use Rattle.rules.specs.Image.{image, goodBytes}
-use Rattle.rules.specs.Lent.{Lent, lentStart, lentStep}
+use Rattle.rules.specs.Lent.{Lent, left, lentStart, lentStep}
+use Rattle.rules.specs.Sheets as sheets
 use Rattle.rules.specs.Sheets.{mark, stepsOf, stepsIn, allZerosIn, badSheet, sheetIn}
 use Rattle.rules.specs.Runs.{outcomes, sentBy, deliveredBy, droppedBy, sum, fields, stepLines, lastWorld, rehearsed, startOf, endOf, badOf}
 use Rattle.rules.specs.Examples.{recorded}
 use Rattle.rules.proofs.Kept.{step-keeps, run-keeps}
 use Rattle.rules.proofs.ImageWidths.{length-image}
 use Rattle.rules.proofs.ImageWorld.{image-injective}
+use Rattle.sheet.specs.Writing.{listed, ruled, bufferOf}
 use Rattle.record.specs.Lines.{laid}
 use Rattle.world.specs.Answer.{reportOf, lentOf}
 use Rattle.world.specs.Playing.{fittedOf, rehearseAnswer, worldLeft, recordLeft}
 use Rattle.world.specs.declared.Answer.{Answer}
 use Rattle.world.specs.declared.Report.the-variants.{Nothing, WriteDone}
 use Rattle.world.specs.declared.run.Rehearsed.{Rehearsed}
-use Rattle.engine.specs.Told.{goodNumber, toldBytes, toldOf}
+use Rattle.engine.specs.Told.{goodNumber, sheetNumber, toldBytes, toldOf, Stepped, telling, toldStep, toldRehearsal}
 use Rattle.certificate.proofs.Differ.{differ, itself, truth, entry}
 use Rattle.certificate.proofs.Worlds.{one, two, one-formed, two-formed, one-good, write, deliver, step-of, start-of, soiled, soiled-long, soiled-bad}
 
@@ -169,12 +171,16 @@ world-rehearse-printed-invented-totals p =
 
 -- ---- engine
 
-pub engine-world-good-never : ¬ ((w : List ℕ) → 0 ≡ goodNumber w)
-engine-world-good-never p = differ itself (p one ∙ ap (λ (b : Bool). if b then 1 else 0) one-good) tt
+pub engine-world-good-always : ¬ ((w : List ℕ) → 0 ≡ goodNumber w)
+engine-world-good-always p = differ itself (p soiled ∙ ap (λ (b : Bool). if b then 0 else 1) soiled-bad) tt
 
-pub engine-world-good-by-length-only : ¬ ((w : List ℕ) → (if eqb (length w) 65536 then 1 else 0) ≡ goodNumber w)
+pub engine-world-good-1-for-a-good-one : ¬ ((w : List ℕ) → (if goodBytes w then 1 else 0) ≡ goodNumber w)
+engine-world-good-1-for-a-good-one p =
+    differ itself (sym (ap (λ (b : Bool). if b then 1 else 0) one-good) ∙ p one ∙ ap (λ (b : Bool). if b then 0 else 1) one-good) tt
+
+pub engine-world-good-by-length-only : ¬ ((w : List ℕ) → (if eqb (length w) 65536 then 0 else 1) ≡ goodNumber w)
 engine-world-good-by-length-only p =
-    differ itself (sym (ap (λ (n : ℕ). if eqb n 65536 then 1 else 0) soiled-long) ∙ p soiled ∙ ap (λ (b : Bool). if b then 1 else 0) soiled-bad) tt
+    differ itself (sym (ap (λ (n : ℕ). if eqb n 65536 then 0 else 1) soiled-long) ∙ p soiled ∙ ap (λ (b : Bool). if b then 0 else 1) soiled-bad) tt
 
 pub engine-world-start-answer-done-always : ¬ ((w : List ℕ) (mask : ℕ) → 0 ≡ lentStart w mask .answer)
 unfolding lentStart
@@ -190,23 +196,120 @@ engine-world-start-answer-mask-0-accepted p = differ itself (sym (long-right _ _
 pub engine-world-start-buffer-as-it-was : ¬ ((w : List ℕ) (mask : ℕ) → w ≡ lentStart w mask .buffer)
 engine-world-start-buffer-as-it-was p = starts-differ (p two 1 ∙ buffer-of (start-of two (length-image (start 2))))
 
-pub engine-world-step-answer-refused-always : ¬ ((w : List ℕ) (kind id value : ℕ) → 1 ≡ lentStep w (record { kind = kind; id = id; value = value }) .answer)
+-- nine bytes for what a step tells, and what is told there of a step of a good world
+abbrev nine : List ℕ
+nine = replicate 9 7
+
+stepped-there : (W : World) → wellFormed W ≡ true → (kind id value : ℕ)
+    → toldStep (image W) kind id value nine ≡ telling nine (left (image W) (stepped W (record { kind = kind; id = id; value = value })))
+unfolding toldStep
+stepped-there W g kind id value = ap (telling nine) (step-of W g (record { kind = kind; id = id; value = value }))
+
+answer-of : {x y : Stepped} → x ≡ y → x .answer ≡ y .answer
+answer-of e = ap (λ (x : Stepped). x .answer) e
+
+told-of : {x y : Stepped} → x ≡ y → x .told ≡ y .told
+told-of e = ap (λ (x : Stepped). x .told) e
+
+-- told that is too short
+kept-there : (w : List ℕ) (kind id value : ℕ) → toldStep w kind id value [] ≡ record { answer = 8; buffer = w; told = [] }
+unfolding toldStep
+kept-there w kind id value = refl
+
+pub engine-world-step-answer-refused-always : ¬ ((w told : List ℕ) (kind id value : ℕ) → 1 ≡ toldStep w kind id value told .answer)
 unfolding recorded
-engine-world-step-answer-refused-always p = differ itself (p one 5 0 77 ∙ ap number (step-of (start 1) one-formed write)) tt
+engine-world-step-answer-refused-always p = differ itself (p one nine 5 0 77 ∙ answer-of (stepped-there (start 1) one-formed 5 0 77)) tt
 
-pub engine-world-step-buffer-as-it-was : ¬ ((w : List ℕ) (kind id value : ℕ) → w ≡ lentStep w (record { kind = kind; id = id; value = value }) .buffer)
+-- the write is done, though nothing can be told
+pub engine-world-step-answer-done-untold : ¬ ((w told : List ℕ) (kind id value : ℕ)
+    → lentStep w (record { kind = kind; id = id; value = value }) .answer ≡ toldStep w kind id value told .answer)
 unfolding recorded
-engine-world-step-buffer-as-it-was p = write-moves (p one 5 0 77 ∙ buffer-of (step-of (start 1) one-formed write))
+engine-world-step-answer-done-untold p =
+    differ itself (sym (ap number (step-of (start 1) one-formed write)) ∙ p one [] 5 0 77 ∙ answer-of (kept-there one 5 0 77)) tt
 
--- nine bytes with the columns of a step laid over them
-abbrev toldAfter : Lent → List ℕ
-toldAfter l = placed (replicate 9 7) 0 (toldBytes (toldOf l))
+pub engine-world-step-buffer-as-it-was : ¬ ((w told : List ℕ) (kind id value : ℕ) → w ≡ toldStep w kind id value told .buffer)
+unfolding recorded
+engine-world-step-buffer-as-it-was p = write-moves (p one nine 5 0 77 ∙ ap (λ (x : Stepped). x .buffer) (stepped-there (start 1) one-formed 5 0 77))
 
-pub engine-world-step-columns-as-they-were : ¬ ((w told : List ℕ) (kind id value : ℕ) → (if goodBytes w then told else placed told 0 (toldBytes (toldOf (lentStep w (record { kind = kind; id = id; value = value }))))) ≡ placed told 0 (toldBytes (toldOf (lentStep w (record { kind = kind; id = id; value = value })))))
-unfolding recorded toldOf cat bytesOf toldBytes placed splice
-engine-world-step-columns-as-they-were p =
-    differ (entry 0) (sym (ap (λ (b : Bool). if b then replicate 9 7 else toldAfter (lentStep one write)) one-good) ∙ p one (replicate 9 7) 5 0 77 ∙ ap toldAfter (step-of (start 1) one-formed write)) tt
+-- an event is lost
+pub engine-world-step-buffer-moved-untold : ¬ ((w told : List ℕ) (kind id value : ℕ)
+    → lentStep w (record { kind = kind; id = id; value = value }) .buffer ≡ toldStep w kind id value told .buffer)
+unfolding recorded
+engine-world-step-buffer-moved-untold p =
+    write-moves (sym (ap (λ (x : Stepped). x .buffer) (kept-there one 5 0 77)) ∙ sym (p one [] 5 0 77) ∙ buffer-of (step-of (start 1) one-formed write))
 
-pub engine-world-step-columns-zeros-always : ¬ ((w told : List ℕ) (kind id value : ℕ) → placed told 0 (zeros 9) ≡ placed told 0 (toldBytes (toldOf (lentStep w (record { kind = kind; id = id; value = value })))))
+pub engine-world-step-columns-as-they-were : ¬ ((w told : List ℕ) (kind id value : ℕ) → told ≡ toldStep w kind id value told .told)
+unfolding recorded toldOf cat bytesOf toldBytes
+engine-world-step-columns-as-they-were p = differ (entry 0) (p one nine 5 0 77 ∙ told-of (stepped-there (start 1) one-formed 5 0 77)) tt
+
+pub engine-world-step-columns-zeros-always : ¬ ((w told : List ℕ) (kind id value : ℕ) → placed told 0 (zeros 9) ≡ toldStep w kind id value told .told)
 unfolding recorded toldOf cat bytesOf run zeros toldBytes placed splice
-engine-world-step-columns-zeros-always p = differ (entry 0) (p (image ending) (replicate 9 7) 6 0 0 ∙ ap toldAfter (step-of ending ending-formed deliver)) tt
+engine-world-step-columns-zeros-always p = differ (entry 0) (p (image ending) nine 6 0 0 ∙ told-of (stepped-there ending ending-formed 6 0 0)) tt
+
+-- nothing is there to deliver: EMPTY
+pub engine-world-step-columns-told-by-a-refusal : ¬ ((w told : List ℕ) (kind id value : ℕ)
+    → placed told 0 (toldBytes (toldOf (lentStep w (record { kind = kind; id = id; value = value })))) ≡ toldStep w kind id value told .told)
+unfolding recorded toldOf cat bytesOf toldBytes placed splice
+engine-world-step-columns-told-by-a-refusal p =
+    differ (entry 0)
+    (sym (ap (λ (l : Lent). placed nine 0 (toldBytes (toldOf l))) (step-of (start 1) one-formed deliver))
+    ∙ p one nine 6 0 0
+    ∙ told-of (stepped-there (start 1) one-formed 6 0 0))
+    tt
+
+pub engine-sheet-check-never-bad : ¬ ((sheet : List ℕ) → 0 ≡ sheetNumber sheet)
+unfolding allZerosIn
+engine-sheet-check-never-bad p = differ itself (p []) tt
+
+pub engine-sheet-check-bad-always : ¬ ((sheet : List ℕ) → 9 ≡ sheetNumber sheet)
+unfolding allZerosIn
+engine-sheet-check-bad-always p = differ itself (p blank) tt
+
+pub engine-sheet-check-1-for-a-bad-one : ¬ ((sheet : List ℕ) → (if badSheet sheet then 1 else 0) ≡ sheetNumber sheet)
+unfolding allZerosIn
+engine-sheet-check-1-for-a-bad-one p = differ itself (p []) tt
+
+-- a kind and an id without a value, in a buffer with room
+pub engine-sheet-write-answer-done-always : ¬ ((buf : List ℕ) (mask : ℕ) (kinds ids values : List ℕ) → 0 ≡ sheets.number (ruled buf mask kinds ids values))
+unfolding ruled
+engine-sheet-write-answer-done-always p = differ itself (p page 1 (5 ∷ []) (0 ∷ []) []) tt
+
+pub engine-sheet-write-answer-of-the-shortest : ¬ ((buf : List ℕ) (mask : ℕ) (kinds ids values : List ℕ)
+    → sheets.number (sheets.written buf mask (listed kinds ids values)) ≡ sheets.number (ruled buf mask kinds ids values))
+unfolding ruled listed sheets.written sheets.sheetBytes sheets.stepsBytes
+engine-sheet-write-answer-of-the-shortest p = differ itself (p page 1 (5 ∷ []) (0 ∷ []) []) tt
+
+pub engine-sheet-write-left-as-it-was : ¬ ((buf : List ℕ) (mask : ℕ) (kinds ids values : List ℕ) → buf ≡ bufferOf buf (ruled buf mask kinds ids values))
+unfolding ruled listed sheets.written sheets.sheetBytes sheets.stepsBytes
+engine-sheet-write-left-as-it-was p = differ (entry 0) (p page 1 [] [] []) tt
+
+-- told too short for the length, and a world of no length: BAD WORLD
+pub engine-sheet-rehearse-answer-done-always : ¬ ((sheet world out told : List ℕ) → 0 ≡ toldRehearsal sheet world out told .answer)
+unfolding toldRehearsal
+engine-sheet-rehearse-answer-done-always p = differ itself (p blank one page []) tt
+
+pub engine-sheet-rehearse-answer-before-told : ¬ ((sheet world out told : List ℕ)
+    → rehearseAnswer sheet world out .answer ≡ toldRehearsal sheet world out told .answer)
+unfolding rehearseAnswer toldRehearsal
+engine-sheet-rehearse-answer-before-told p = differ itself (p blank [] page []) tt
+
+pub engine-sheet-rehearse-last-run-untold : ¬ ((sheet world out told : List ℕ) → worldLeft sheet world ≡ toldRehearsal sheet world out told .last)
+unfolding toldRehearsal
+engine-sheet-rehearse-last-run-untold p = starts-differ (sym (p blank two page []) ∙ left-there blank two (length-image (start 2)) refl)
+
+pub engine-sheet-rehearse-printed-nothing : ¬ ((sheet world out told : List ℕ) → out ≡ toldRehearsal sheet world out told .printed)
+unfolding toldRehearsal laid sheetIn stepsIn allZerosIn recorded rehearsed
+engine-sheet-rehearse-printed-nothing p = differ (entry 0) (p blank one page (replicate 4 7) ∙ printed-there blank page) tt
+
+pub engine-sheet-rehearse-length-told-by-a-refusal : ¬ ((sheet world out told : List ℕ)
+    → placed told 0 (be32 (rehearseAnswer sheet world out .length)) ≡ toldRehearsal sheet world out told .told)
+unfolding rehearseAnswer toldRehearsal bytesOf placed splice
+engine-sheet-rehearse-length-told-by-a-refusal p = differ (entry 0) (p blank [] page (replicate 4 7)) tt
+
+-- told after an answer
+abbrev toldAfter : Rehearsed → List ℕ
+toldAfter r = if eqb (r .answer) 0 then be32 (r .length) ++ [] else replicate 4 7
+
+pub engine-sheet-rehearse-length-not-told : ¬ ((sheet world out told : List ℕ) → told ≡ toldRehearsal sheet world out told .told)
+unfolding toldRehearsal fittedOf sheetIn stepsIn allZerosIn recorded rehearsed bytesOf
+engine-sheet-rehearse-length-not-told p = differ (entry 0) (p blank one page (replicate 4 7) ∙ ap toldAfter (answered-there blank page)) tt

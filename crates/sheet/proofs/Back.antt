@@ -6,22 +6,11 @@ use native.Mathlib.Omega.{arith}
 use lib.ListN.{length, getD, take, drop}
 use lib.Seq.{take-at}
 use Rattle.rules.specs.declared.Step.{Step}
-use Rattle.rules.specs.Sheets.{sheet, sheetIn, sheetBytes}
+use Rattle.rules.specs.Sheets.{sheet, sheetIn, sheetBytes, wrote, written}
 use Rattle.rules.proofs.Sheets.{Smalls, Bytes, sheet-back, sheet-held}
-use Rattle.sheet.specs.declared.Written.the-variants.{Done}
-use Rattle.sheet.specs.Writing.{listed, writtenOf, leftOf}
+use Rattle.sheet.specs.Writing.{listed, bufferOf}
 use Rattle.sheet.proofs.Walk.{accepted, count, sound}
 use Rattle.sheet.proofs.Writing.{size, ruling}
-
--- a ruling as the code's answer and buffer
-module _ (buffer : List ℕ) (mask : ℕ) (ks : List Step) (some : mask ≡ 0 → ⊥) (few : length ks ≤ 8000) (room : 6 + 8 * length ks ≤ length buffer) where
-  answered : writtenOf buffer mask ks ≡ Done (length (sheetBytes mask ks))
-  unfolding writtenOf
-  answered = rw (ruling buffer mask ks some few room)
-
-  filled : leftOf buffer mask ks ≡ sheetBytes mask ks ++ drop (length (sheetBytes mask ks)) buffer
-  unfolding leftOf
-  filled = rw (ruling buffer mask ks some few room)
 
 bytes : (l : List ℕ) → ((k : ℕ) → getD l k 0 < 256) → Bytes l
 unfolding Bytes
@@ -34,7 +23,7 @@ module _ (b buffer : List ℕ) (mask : ℕ) (ks : List Step) (each : (k : ℕ) �
       let a = accepted b mask ks e in
       rw (a .masked, a .steps) at (sheet-held b (bytes b each) (a .good))
 
-  pub again : length b ≤ length buffer → (writtenOf buffer mask ks ≡ Done (length b)) × (leftOf buffer mask ks ≡ b ++ drop (length b) buffer)
+  pub again : length b ≤ length buffer → written buffer mask ks ≡ wrote (b ++ drop (length b) buffer)
   again h =
       let a = accepted b mask ks e in
       let s = sound b (a .good) in
@@ -42,7 +31,7 @@ module _ (b buffer : List ℕ) (mask : ℕ) (ks : List Step) (each : (k : ℕ) �
       let some : mask ≡ 0 → ⊥ = λ z. s .some (a .masked ∙ z) in
       let room : 6 + 8 * length ks ≤ length buffer = omega (arith, size b mask ks, ap length same-bytes) in
       let few : length ks ≤ 8000 = omega (arith, s .few) in
-      (rw same-bytes at (answered buffer mask ks some few room), rw same-bytes at (filled buffer mask ks some few room))
+      rw same-bytes at (ruling buffer mask ks some few room)
 
 -- steps in slices of bytes and of numbers below 2 to the 32nd are steps that a sheet can hold
 pub smalls : (ks ids vs : List ℕ) → ((k : ℕ) → getD ks k 0 < 256) → ((k : ℕ) → getD ids k 0 < 256) → ((k : ℕ) → getD vs k 0 < 4294967296)
@@ -56,9 +45,9 @@ smalls (k ∷ ks) (i ∷ ids) (v ∷ vs) hk hi hv =
 
 -- "8,000 steps": what is written of them, read, is the list
 pub back : (buffer : List ℕ) (mask : ℕ) (ks : List Step) → 0 < mask → length ks ≤ 8000 → Smalls ks → 6 + 8 * length ks ≤ length buffer
-    → sheetIn (take (6 + 8 * length ks) (leftOf buffer mask ks)) ≡ sheet mask ks
+    → sheetIn (take (6 + 8 * length ks) (bufferOf buffer (written buffer mask ks))) ≡ sheet mask ks
 back buffer mask ks low few h room =
     let some : mask ≡ 0 → ⊥ = λ z. omega arith in
     let whole : List ℕ = sheetBytes mask ks in
-    rw (filled buffer mask ks some few room, take-at whole (drop (length whole) buffer) (6 + 8 * length ks) (size buffer mask ks))
+    rw (ruling buffer mask ks some few room, take-at whole (drop (length whole) buffer) (6 + 8 * length ks) (size buffer mask ks))
     (sheet-back mask ks low few h)

@@ -1,6 +1,6 @@
 -- A list of steps in three slices, a loop that writes it, and what writing a sheet answers. Assumes nothing.
 use mathlib.Core.Path.{_≡_, refl, sym, ap, _∙_}
-use mathlib.Core.Bool.{true, false, _||_}
+use mathlib.Core.Bool.{Bool, true, false, not, _||_}
 use mathlib.Core.List.{List, [], _∷_, _++_, append-nil}
 use Prim.Native.Nat.{ℕ, zero, suc, _+_, _-_, _*_, _≤_, _<_, min}
 use native.Mathlib.Nat.{zero-add}
@@ -11,16 +11,16 @@ use mir.Val.{Fits}
 use lib.Dec.{eqb, ltb}
 use lib.ListN.{length, getD, drop, length-drop, drop-of-length-le}
 use lib.Seq.{drop-cons}
-use borrow.Author.Tests.{ltb-false, eqb-false, lt-ltb, le-ltb, ne-eqb}
+use borrow.Author.Tests.{ltb-false, eqb-true, eqb-false, lt-ltb, le-ltb, ne-eqb, not-false}
 use Rattle.views.proofs.Truth.{neither-true}
 use Rattle.rows.specs.Bytes.{splice, placed, bytesOf, fieldsOf, be16, be32}
 use Rattle.rows.proofs.Laws.{placed-length, placed-nil, placed-more, placed-fits}
 use Rattle.rows.proofs.Numbers.{byte-number}
+use Rattle.rules.specs.Sets.{if_then_else_}
 use Rattle.rules.specs.declared.Step.{Step}
 use Rattle.rules.proofs.Sheets.{steps-length}
-use Rattle.rules.specs.Sheets.{mark, stepBytes, stepsBytes, sheetBytes, Written as Ruling, bad-sheet, no-room, wrote, number, written}
-use Rattle.sheet.specs.declared.Written.the-variants.{Done, BadSheet, NoRoom}
-use Rattle.sheet.specs.Writing.{listed, numberOf, answerOf, writtenOf, leftOf}
+use Rattle.rules.specs.Sheets.{mark, stepBytes, stepsBytes, sheetBytes, bad-sheet, no-room, wrote, number, written}
+use Rattle.sheet.specs.Writing.{listed, unequal, ruled, ruledSize, bufferOf}
 
 -- ---- the list
 
@@ -97,52 +97,77 @@ left-none {steps} {l₀} {l} {o} {i} h p =
     let none : drop i steps ≡ [] = drop-of-length-le steps p in
     sym (placed-nil l o) ∙ ap (λ (r : List Step). placed l o (stepsBytes r)) (sym none) ∙ h .is
 
--- ---- the answer and the buffer; the code has counted n steps
+-- ---- the ruling on a list
 
 module _ (b : List ℕ) (mask : ℕ) (ks : List Step) where
   pub size : length (sheetBytes mask ks) ≡ 6 + 8 * length ks
   unfolding sheetBytes
   size = omega (arith, steps-length ks)
 
-  pub number-is : numberOf (writtenOf b mask ks) ≡ number (written b mask ks)
-  unfolding writtenOf
-  number-is = go (written b mask ks)
-    where
-      go : (w : Ruling) → numberOf (answerOf (length (sheetBytes mask ks)) w) ≡ number w
-      go bad-sheet = refl
-      go no-room = refl
-      go (wrote l) = refl
-
-  pub bad : {n : ℕ} → n ≡ length ks → eqb mask 0 || ltb 8000 n ≡ true → (BadSheet ≡ writtenOf b mask ks) × (b ≡ leftOf b mask ks)
-  unfolding writtenOf leftOf written
-  bad e t = let t₁ : eqb mask 0 || ltb 8000 (length ks) ≡ true = rw e at t in (rw t₁, rw t₁)
-
   pub ruling : (mask ≡ 0 → ⊥) → length ks ≤ 8000 → 6 + 8 * length ks ≤ length b → written b mask ks ≡ wrote (sheetBytes mask ks ++ drop (length (sheetBytes mask ks)) b)
   unfolding written
   ruling some few h = rw (ne-eqb mask 0 some, le-ltb 8000 (length ks) few, le-ltb (length b) (length (sheetBytes mask ks)) (omega (arith, size)))
 
-  module _ {n : ℕ} (e : n ≡ length ks) (t : eqb mask 0 || ltb 8000 n ≡ false) where
-    pub roomless : length b < 6 + n * 8 → (NoRoom ≡ writtenOf b mask ks) × (b ≡ leftOf b mask ks)
-    unfolding writtenOf leftOf written
+-- ---- three slices, of which the code has tested the lengths and the mask
+
+pub same-lengths : (kinds ids values : List ℕ) → unequal kinds ids values ≡ false → (length ids ≡ length kinds) × (length values ≡ length kinds)
+same-lengths kinds ids values e =
+    let p = neither-true (not (eqb (length ids) (length kinds))) (not (eqb (length values) (length kinds))) e in
+    (eqb-true (length ids) (length kinds) (not-false _ (p .0)), eqb-true (length values) (length kinds) (not-false _ (p .1)))
+
+equal-length : (kinds ids values : List ℕ) → unequal kinds ids values ≡ false → length (listed kinds ids values) ≡ length kinds
+equal-length kinds ids values e = let s = same-lengths kinds ids values e in omega (arith, listed-length kinds ids values, s .0, s .1)
+
+module _ (b : List ℕ) (mask : ℕ) (kinds ids values : List ℕ) where
+  pub bad : unequal kinds ids values || eqb mask 0 || ltb 8000 (length kinds) ≡ true → ruled b mask kinds ids values ≡ bad-sheet
+  unfolding ruled written
+  bad t = go (unequal kinds ids values) refl t
+    where
+      go : (u : Bool) → unequal kinds ids values ≡ u → u || eqb mask 0 || ltb 8000 (length kinds) ≡ true
+          → (if u then bad-sheet else written b mask (listed kinds ids values)) ≡ bad-sheet
+      go true e t = refl
+      go false e t =
+          let t₁ : eqb mask 0 || ltb 8000 (length (listed kinds ids values)) ≡ true = rw (equal-length kinds ids values e) t in
+          rw t₁
+
+  module _ (t : unequal kinds ids values || eqb mask 0 || ltb 8000 (length kinds) ≡ false) where
+    masked : (unequal kinds ids values ≡ false) × (eqb mask 0 ≡ false)
+    masked = neither-true (unequal kinds ids values) (eqb mask 0) (neither-true (unequal kinds ids values || eqb mask 0) (ltb 8000 (length kinds)) t .0)
+
+    some : mask ≡ 0 → ⊥
+    some = eqb-false mask 0 (masked .1)
+
+    pub few : length kinds ≤ 8000
+    few = ltb-false 8000 (length kinds) (neither-true (unequal kinds ids values || eqb mask 0) (ltb 8000 (length kinds)) t .1)
+
+    pub counted : length (listed kinds ids values) ≡ length kinds
+    counted = equal-length kinds ids values (masked .0)
+
+    by-list : ruled b mask kinds ids values ≡ written b mask (listed kinds ids values)
+    unfolding ruled
+    by-list = rw (masked .0)
+
+    pub roomless : length b < 6 + length kinds * 8 → ruled b mask kinds ids values ≡ no-room
+    unfolding written
     roomless h =
-        let t₁ : eqb mask 0 || ltb 8000 (length ks) ≡ false = rw e at t in
-        let short = lt-ltb (length b) (length (sheetBytes mask ks)) (omega (arith, size)) in
-        (rw (t₁, short), rw (t₁, short))
+        let ks : List Step = listed kinds ids values in
+        let short = lt-ltb (length b) (length (sheetBytes mask ks)) (omega (arith, size b mask ks, counted)) in
+        by-list ∙ rw (ne-eqb mask 0 some, counted, le-ltb 8000 (length kinds) few, short)
 
-    module _ (room : 6 + n * 8 ≤ length b) where
-      ruled : written b mask ks ≡ wrote (sheetBytes mask ks ++ drop (length (sheetBytes mask ks)) b)
-      ruled =
-          let p = neither-true (eqb mask 0) (ltb 8000 n) t in
-          ruling (eqb-false mask 0 (p .0)) (omega (arith, ltb-false 8000 n (p .1))) (omega arith)
+    module _ (room : 6 + length kinds * 8 ≤ length b) where
+      whole : ruled b mask kinds ids values ≡ wrote (sheetBytes mask (listed kinds ids values) ++ drop (length (sheetBytes mask (listed kinds ids values))) b)
+      whole = by-list ∙ ruling b mask (listed kinds ids values) some (omega (arith, counted, few)) (omega (arith, counted))
 
-      pub done : Done (6 + n * 8) ≡ writtenOf b mask ks
-      unfolding writtenOf
-      done = rw ruled (ap Done (omega (arith, size)))
+      pub done : (0 ≡ number (ruled b mask kinds ids values)) × (6 + length kinds * 8 ≡ ruledSize b mask kinds ids values)
+      unfolding ruledSize
+      done = (rw whole, rw whole (omega (arith, size b mask (listed kinds ids values), counted)))
 
-      pub left : (h l : List ℕ) → h ≡ placed b 0 (mark ++ (mask ∷ [])) → l ≡ placed h 6 (stepsBytes ks) → l ≡ leftOf b mask ks
-      unfolding leftOf splice sheetBytes
+      pub left : (h l : List ℕ) → h ≡ placed b 0 (mark ++ (mask ∷ [])) → l ≡ placed h 6 (stepsBytes (listed kinds ids values))
+          → l ≡ bufferOf b (ruled b mask kinds ids values)
+      unfolding splice sheetBytes
       left h l eh el =
+          let ks : List Step = listed kinds ids values in
           el
-          ∙ rw eh (placed-more b (mark ++ (mask ∷ [])) (stepsBytes ks) 0 (omega (arith, steps-length ks)))
-          ∙ placed-fits b (sheetBytes mask ks) 0 (omega (arith, steps-length ks))
-          ∙ rw (ruled, zero-add)
+          ∙ rw eh (placed-more b (mark ++ (mask ∷ [])) (stepsBytes ks) 0 (omega (arith, steps-length ks, counted)))
+          ∙ placed-fits b (sheetBytes mask ks) 0 (omega (arith, steps-length ks, counted))
+          ∙ rw (whole, zero-add)

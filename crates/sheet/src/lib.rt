@@ -4,16 +4,15 @@ use rows::has_room;
 use rows::is_zero;
 use rows::put_fields;
 use rows::read_u32;
-use rows::smaller;
 use rules::Step;
 ghost use mathlib.Core.Path.{_≡_};
 ghost use mathlib.Core.List.{[], _∷_, _++_};
 ghost use Prim.Native.Nat.{_+_, _*_, _≤_};
 ghost use lib.ListN.{length, drop};
 ghost use Rattle.rows.specs.Bytes.{placed};
-ghost use Rattle.rules.specs.Sheets.{mark, marked, allZerosIn, stepBytes, stepsBytes};
+ghost use Rattle.rules.specs.Sheets.{mark, marked, allZerosIn, stepBytes, stepsBytes, number};
 ghost use Rattle.sheet.specs.Reading.{checkOf, stepAt, afterOf};
-ghost use Rattle.sheet.specs.Writing.{listed, writtenOf, leftOf};
+ghost use Rattle.sheet.specs.Writing.{listed, ruled, ruledSize, bufferOf, numberOf, sizeOf};
 
 pub mod reader; // a sheet's bytes and a position, moved on step by step
 
@@ -132,12 +131,6 @@ pub fn after(b: &[u8], at: usize) -> usize
     at
 }
 
-fn count(kinds: &[u8], ids: &[u8], values: &[u32]) -> usize
-    ensures { λ r. ⌜ r ≡ length (listed (now (kinds .entry)) (now (ids .entry)) (now (values .entry))) ⌝ }
-{
-    smaller(kinds.len(), smaller(ids.len(), values.len()))
-}
-
 fn put_head(buf: &mut [u8], mask: u8)
     ensures { λ _. ⌜ now (buf .exit) ≡ placed (now (buf .entry)) 0 (mark ++ (mask ∷ [])) ⌝ }
 {
@@ -182,12 +175,16 @@ fn put_steps(buf: &mut [u8], n: usize, kinds: &[u8], ids: &[u8], values: &[u32])
 }
 
 // "A list with its mask is written into a lent buffer: BAD SHEET for mask 0 or over 8,000 steps, then NO ROOM; bytes past the sheet stay."
+// Three slices of unequal lengths are no list.
 pub fn write(buf: &mut [u8], mask: u8, kinds: &[u8], ids: &[u8], values: &[u32]) -> Written
-    ensures answer { λ r. ⌜ r ≡ writtenOf (now (buf .entry)) mask (listed (now (kinds .entry)) (now (ids .entry)) (now (values .entry))) ⌝ }
-    ensures left { λ _. ⌜ now (buf .exit) ≡ leftOf (now (buf .entry)) mask (listed (now (kinds .entry)) (now (ids .entry)) (now (values .entry))) ⌝ }
+    ensures answer { λ r. ⌜ (numberOf r ≡ number (ruled (now (buf .entry)) mask (now (kinds .entry)) (now (ids .entry)) (now (values .entry))))
+        × (sizeOf r ≡ ruledSize (now (buf .entry)) mask (now (kinds .entry)) (now (ids .entry)) (now (values .entry))) ⌝ }
+    ensures left { λ _. ⌜ now (buf .exit)
+        ≡ bufferOf (now (buf .entry)) (ruled (now (buf .entry)) mask (now (kinds .entry)) (now (ids .entry)) (now (values .entry))) ⌝ }
 {
-    let n = count(kinds, ids, values);
-    if (mask == 0) | (MOST < n) {
+    let n = kinds.len();
+    let unequal = (ids.len() != n) | (values.len() != n);
+    if unequal | (mask == 0) | (MOST < n) {
         return Written::BadSheet;
     }
     let size = HEAD + n * STEP;

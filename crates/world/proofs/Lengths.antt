@@ -3,7 +3,7 @@ use mathlib.Core.Path.{_≡_, refl, ap}
 use mathlib.Core.List.{List, [], _∷_}
 use Prim.Native.Nat.{ℕ, zero, suc, _+_, _*_, _/_, _≤_}
 use native.Mathlib.Omega.{arith}
-use lib.Dec.{ltb}
+use lib.Dec.{eqb, ltb}
 use lib.ListN.{length, length-append}
 use Rattle.views.proofs.Truth.{cases}
 use Rattle.rules.specs.Messages.{Event, nothing, opened, readDone, writeDone}
@@ -16,6 +16,8 @@ use Rattle.rules.specs.Runs.{outcomes, lastWorld, sum, sentBy, deliveredBy, dro
 use Rattle.rules.specs.Runs.{rehearsal as rehearsalOf}
 use Rattle.sheet.proofs.Walk.{accepted, count, sound}
 use Rattle.record.proofs.Whole.{printed-is}
+use Rattle.world.specs.declared.run.Rehearsed.{Rehearsed}
+use Rattle.world.specs.Playing.{fittedOf, rehearseAnswer}
 
 digits-long : (k n : ℕ) → length (digits k n) ≤ k
 unfolding digits
@@ -64,3 +66,8 @@ rehearsed-long b = go (sheetIn b) refl
     go (sheet mask ks) e =
         let a = accepted b mask ks e in
         omega (arith, printed-long mask ks, count b mask ks a, sound b (a .good) .few)
+
+-- whatever a rehearsal answers, the length that it tells
+pub answer-long : (b w out : List ℕ) → rehearseAnswer b w out .length ≤ 624067
+unfolding rehearseAnswer fittedOf
+answer-long b w out = cases (λ (r : Rehearsed). r .length ≤ 624067) (eqb (length w) 65536) (λ _. rehearsed-long b) (λ _. omega arith)
