@@ -22,13 +22,14 @@ use Rattle.stamps.specs.declared.Pair.{Pair}
 use Rattle.rows.specs.Bytes as rows
 use Rattle.rows.specs.Bytes.{placed, be16, u16At, u32At, zeros}
 use Rattle.rows.specs.Tests.{allZero}
+use Rattle.rules.specs.Sets.{members, joined}
 use Rattle.rules.specs.Messages as rules
 use Rattle.rules.specs.State.{noRelay, noDesk}
 use Rattle.rules.specs.Generators as generators
 use Rattle.rules.specs.Relays as relays
 use Rattle.rules.specs.Desks.{begun, ended}
 use Rattle.rules.specs.Desks as desks
-use Rattle.rules.specs.Image.{bodyRow, sequenceBytes, sequenceAt, pairAt, headBytes, generatorBytes, generatorAt, transferBytes, transferAt, deskBytes, deskAt, rowBytes, rowAt, goodBytes}
+use Rattle.rules.specs.Image.{sequenceBytes, sequenceAt, pairAt, headBytes, generatorBytes, generatorAt, transferBytes, transferAt, deskBytes, deskAt, rowBytes, rowAt, goodBytes}
 use Rattle.rules.specs.Lent.{Lent, lentStart, lentStep}
 use Rattle.rules.specs.Sets.{if_then_else_}
 use Rattle.rules.specs.Sheets as sheets
@@ -43,9 +44,9 @@ use Rattle.state.specs.declared.Head.{Head}
 use Rattle.state.specs.declared.Part.{Part}
 use Rattle.state.specs.declared.Body.{Body}
 use Rattle.state.specs.declared.Message.{Message}
-use Rattle.state.specs.Meaning.{rowOfBody, notesOf, generatorOf, transferOf, relayOf, partOf, bodyOf, sendingOf}
-use Rattle.state.specs.Plans.{noSending, turnOf, turned, planOf, deskPlanOf, planned}
-use Rattle.messages.specs.Made.{toOneOf}
+use Rattle.state.specs.Meaning.{notesOf, generatorOf, transferOf, relayOf, partOf, bodyOf}
+use Rattle.state.specs.Plans.{turnOf, turned, planOf, deskPlanOf, planned}
+use Rattle.messages.specs.Made.{madeWith, made, sendTo, oneOf}
 use Rattle.generator.specs.Heard.{heardInRow}
 use Rattle.relay.specs.Fitting.{joinAnswer, timerAnswer, hearsAnswer}
 use Rattle.desk.specs.Replies.{replyNoted}
@@ -215,53 +216,53 @@ rules-ended self = by-equation (ended self)
 
 -- ---- messages
 
-pub messages-request : (u c : ℕ) → DeterminedBy bodyOf (λ r. bodyOf r ≡ rules.request u c)
-messages-request u c = by-meaning bodyOf (rules.request u c)
+pub messages-request : (u c : ℕ) → Determined (λ r. r ≡ made (rules.request u c))
+messages-request u c = by-equation (made (rules.request u c))
 
-pub messages-view : (v : ℕ) → DeterminedBy bodyOf (λ r. bodyOf r ≡ rules.view v)
-messages-view v = by-meaning bodyOf (rules.view v)
+pub messages-view : (v : ℕ) → Determined (λ r. r ≡ made (rules.view v))
+messages-view v = by-equation (made (rules.view v))
 
-pub messages-proposal : (v : ℕ) (q : Sequence) → DeterminedBy bodyOf (λ r. bodyOf r ≡ rules.proposal v (viewsOf q))
-messages-proposal v q = by-meaning bodyOf (rules.proposal v (viewsOf q))
+pub messages-proposal : (v : ℕ) (q : Sequence) → Determined (λ r. r ≡ madeWith q (rules.proposal v (viewsOf q)))
+messages-proposal v q = by-equation (madeWith q (rules.proposal v (viewsOf q)))
 
-pub messages-converged : (v : ℕ) (q : Sequence) → DeterminedBy bodyOf (λ r. bodyOf r ≡ rules.converged v (viewsOf q))
-messages-converged v q = by-meaning bodyOf (rules.converged v (viewsOf q))
+pub messages-converged : (v : ℕ) (q : Sequence) → Determined (λ r. r ≡ madeWith q (rules.converged v (viewsOf q)))
+messages-converged v q = by-equation (madeWith q (rules.converged v (viewsOf q)))
 
-pub messages-install : (o w : ℕ) (q : Sequence) → DeterminedBy bodyOf (λ r. bodyOf r ≡ rules.install o w (viewsOf q))
-messages-install o w q = by-meaning bodyOf (rules.install o w (viewsOf q))
+pub messages-install : (o w : ℕ) (q : Sequence) → Determined (λ r. r ≡ madeWith q (rules.install o w (viewsOf q)))
+messages-install o w q = by-equation (madeWith q (rules.install o w (viewsOf q)))
 
-pub messages-state : (o w : ℕ) (p : Pair) (updates : ℕ) → DeterminedBy bodyOf (λ r. bodyOf r ≡ rules.state o w p updates)
-messages-state o w p updates = by-meaning bodyOf (rules.state o w p updates)
+pub messages-state : (o w : ℕ) (p : Pair) (updates : ℕ) → Determined (λ r. r ≡ made (rules.state o w p updates))
+messages-state o w p updates = by-equation (made (rules.state o w p updates))
 
-pub messages-get : (tries c : ℕ) → DeterminedBy bodyOf (λ r. bodyOf r ≡ rules.get tries c)
-messages-get tries c = by-meaning bodyOf (rules.get tries c)
+pub messages-get : (tries c : ℕ) → Determined (λ r. r ≡ made (rules.get tries c))
+messages-get tries c = by-equation (made (rules.get tries c))
 
-pub messages-put : (tries c : ℕ) (p : Pair) → DeterminedBy bodyOf (λ r. bodyOf r ≡ rules.put tries c p)
-messages-put tries c p = by-meaning bodyOf (rules.put tries c p)
+pub messages-put : (tries c : ℕ) (p : Pair) → Determined (λ r. r ≡ made (rules.put tries c p))
+messages-put tries c p = by-equation (made (rules.put tries c p))
 
-pub messages-view-reply : (tries v : ℕ) → DeterminedBy bodyOf (λ r. bodyOf r ≡ rules.viewReply tries v)
-messages-view-reply tries v = by-meaning bodyOf (rules.viewReply tries v)
+pub messages-view-reply : (tries v : ℕ) → Determined (λ r. r ≡ made (rules.viewReply tries v))
+messages-view-reply tries v = by-equation (made (rules.viewReply tries v))
 
-pub messages-pair-reply : (tries : ℕ) (p : Pair) → DeterminedBy bodyOf (λ r. bodyOf r ≡ rules.pairReply tries p)
-messages-pair-reply tries p = by-meaning bodyOf (rules.pairReply tries p)
+pub messages-pair-reply : (tries : ℕ) (p : Pair) → Determined (λ r. r ≡ made (rules.pairReply tries p))
+messages-pair-reply tries p = by-equation (made (rules.pairReply tries p))
 
-pub messages-ack : (tries : ℕ) → DeterminedBy bodyOf (λ r. bodyOf r ≡ rules.ack tries)
-messages-ack tries = by-meaning bodyOf (rules.ack tries)
+pub messages-ack : (tries : ℕ) → Determined (λ r. r ≡ made (rules.ack tries))
+messages-ack tries = by-equation (made (rules.ack tries))
 
-pub messages-plain : (b : Body) → DeterminedBy rowOfBody (λ r. rowOfBody r ≡ bodyRow 0 0 (bodyOf b))
-messages-plain b = by-meaning rowOfBody (bodyRow 0 0 (bodyOf b))
+pub messages-plain : (b : Body) → Determined (λ r. r ≡ madeWith (b .sequence) (bodyOf b))
+messages-plain b = by-equation (madeWith (b .sequence) (bodyOf b))
 
-pub messages-no-sending : DeterminedBy sendingOf (λ r. sendingOf r ≡ noSending)
-messages-no-sending = by-meaning sendingOf noSending
+pub messages-no-sending : Determined (λ r. r ≡ sendTo 0 (made (rules.ack 0)))
+messages-no-sending = by-equation (sendTo 0 (made (rules.ack 0)))
 
-pub messages-to-members : (v : ℕ) (body : Body) → DeterminedBy sendingOf (λ r. sendingOf r ≡ rules.toMembers v (bodyOf body))
-messages-to-members v body = by-meaning sendingOf (rules.toMembers v (bodyOf body))
+pub messages-to-members : (v : ℕ) (body : Body) → Determined (λ r. r ≡ sendTo (members v) body)
+messages-to-members v body = by-equation (sendTo (members v) body)
 
-pub messages-to-both : (v w : ℕ) (body : Body) → DeterminedBy sendingOf (λ r. sendingOf r ≡ rules.toBoth v w (bodyOf body))
-messages-to-both v w body = by-meaning sendingOf (rules.toBoth v w (bodyOf body))
+pub messages-to-both : (v w : ℕ) (body : Body) → Determined (λ r. r ≡ sendTo (joined (members v) (members w)) body)
+messages-to-both v w body = by-equation (sendTo (joined (members v) (members w)) body)
 
-pub messages-to-one : (s : ℕ) (body : Body) → DeterminedBy sendingOf (λ r. sendingOf r ≡ toOneOf s (bodyOf body))
-messages-to-one s body = by-meaning sendingOf (toOneOf s (bodyOf body))
+pub messages-to-one : (s : ℕ) (body : Body) → Determined (λ r. r ≡ sendTo (oneOf s) body)
+messages-to-one s body = by-equation (sendTo (oneOf s) body)
 
 -- ---- generator
 

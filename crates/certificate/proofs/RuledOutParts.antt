@@ -8,14 +8,14 @@ use lib.Bits.{bitAnd}
 use lib.Count.{ones, onesIn}
 use lib.Dec.{eqb, leb}
 use lib.ListN.{length, getD, set, drop, replicate}
-use Rattle.views.specs.View.{membersOf, memberOf, quorumOf, reachesOf, insideOf, clashOf}
+use Rattle.views.specs.View.{memberOf, quorumOf, reachesOf, insideOf, clashOf}
 use Rattle.views.specs.Chain.{some, sameOf, leastOf, plusOf, unionOf, heardOf}
 use Rattle.views.specs.Row.{viewsOf, rowOf}
 use Rattle.views.specs.declared.Sequence.{Sequence}
 use Rattle.stamps.specs.Stamp.{signOf, comparedOf, greaterOf, greatestOf, freshPair}
 use Rattle.stamps.specs.Stamp as stamps
 use Rattle.stamps.specs.declared.Pair.{Pair}
-use Rattle.rules.specs.Sets.{joins, all}
+use Rattle.rules.specs.Sets.{joins, members, joined, all}
 use Rattle.rules.specs.Messages as rules
 use Rattle.rules.specs.State.{noRelay, noDesk, withHolds, withGenerators}
 use Rattle.rules.specs.State as state
@@ -31,148 +31,183 @@ use Rattle.state.specs.declared.Notes.{Notes}
 use Rattle.state.specs.declared.Generator.{Generator}
 use Rattle.state.specs.declared.Part.{Part}
 use Rattle.state.specs.declared.Body.{Body}
-use Rattle.state.specs.Meaning.{rowOfBody, notesOf, generatorOf, relayOf, partOf, bodyOf}
-use Rattle.state.specs.Plans.{noSending, Turned, turned, Planned, planned}
-use Rattle.messages.specs.Made.{blankOf, toOneOf}
+use Rattle.state.specs.declared.Sending.{Sending}
+use Rattle.state.specs.Meaning.{notesOf, generatorOf, relayOf, partOf, bodyOf}
+use Rattle.state.specs.Plans.{Turned, turned, Planned, planned}
+use Rattle.messages.specs.Made.{blankOf, madeWith, made, sendTo, oneOf}
 use Rattle.generator.specs.Heard.{mergedInRow, hearsInRow, heardInRow}
 use Rattle.relay.specs.Fitting.{fitting, joinAnswer, timerAnswer, hearsAnswer}
 use Rattle.relay.specs.Fitting as fit
 use Rattle.desk.specs.Replies.{replyNoted}
 use Rattle.certificate.proofs.Differ.{differ, itself, truth}
 
--- ---- messages
+-- ---- messages; the fields of a body, and a body with another
 
--- what a body says: its kind's number (Image), and its fields
-abbrev kind : rules.Body → ℕ
-kind m = bodyRow 0 0 m .kind
+abbrev kind : Body → ℕ
+kind b = b .kind
 
-abbrev about : rules.Body → ℕ
-about m = bodyRow 0 0 m .first
+abbrev about : Body → ℕ
+about b = b .first
 
-abbrev tries : rules.Body → ℕ
-tries m = bodyRow 0 0 m .tries
+abbrev tries : Body → ℕ
+tries b = b .tries
 
-abbrev many : rules.Body → ℕ
-many m = length (bodyRow 0 0 m .sequence)
+abbrev many : Body → ℕ
+many b = b .sequence .len
 
-abbrev value : rules.Body → ℕ
-value m = bodyRow 0 0 m .pair .value
+abbrev value : Body → ℕ
+value b = b .pair .value
 
-abbrev updates : rules.Body → ℕ
-updates m = bodyRow 0 0 m .updates
+abbrev updates : Body → ℕ
+updates b = b .updates
+
+abbrev ofKind : ℕ → Body → Body
+ofKind n b = record { kind = n; first = b .first; second = b .second; tries = b .tries; sequence = b .sequence; pair = b .pair; updates = b .updates }
+
+abbrev withSequence : Sequence → Body → Body
+withSequence q b = record { kind = b .kind; first = b .first; second = b .second; tries = b .tries; sequence = q; pair = b .pair; updates = b .updates }
 
 abbrev pair : Pair
 pair = record { stamp = record { count = 1; desk = 0 }; value = 77 }
 
-pub messages-request-exchanged : ¬ ((u c : ℕ) → rules.request c u ≡ rules.request u c)
+pub messages-request-exchanged : ¬ ((u c : ℕ) → made (rules.request c u) ≡ made (rules.request u c))
+unfolding madeWith
 messages-request-exchanged p = differ updates (p 2 1) tt
 
-pub messages-request-for-the-view-it-gives : ¬ ((u c : ℕ) → rules.request u (u + c) ≡ rules.request u c)
+pub messages-request-for-the-view-it-gives : ¬ ((u c : ℕ) → made (rules.request u (u + c)) ≡ made (rules.request u c))
+unfolding madeWith
 messages-request-for-the-view-it-gives p = differ about (p 2 1) tt
 
-pub messages-view-of-the-members : ¬ ((v : ℕ) → rules.view (membersOf v) ≡ rules.view v)
+pub messages-view-of-the-members : ¬ ((v : ℕ) → made (rules.view (members v)) ≡ made (rules.view v))
+unfolding madeWith
 messages-view-of-the-members p = differ about (p 257) tt
 
-pub messages-view-as-a-reply : ¬ ((v : ℕ) → rules.viewReply 0 v ≡ rules.view v)
+pub messages-view-as-a-reply : ¬ ((v : ℕ) → made (rules.viewReply 0 v) ≡ made (rules.view v))
+unfolding madeWith
 messages-view-as-a-reply p = differ kind (p 1) tt
 
-pub messages-proposal-as-converged : ¬ ((v : ℕ) (q : Sequence) → rules.converged v (viewsOf q) ≡ rules.proposal v (viewsOf q))
-unfolding viewsOf rowOf
+pub messages-proposal-as-converged : ¬ ((v : ℕ) (q : Sequence) → madeWith q (rules.converged v (viewsOf q)) ≡ madeWith q (rules.proposal v (viewsOf q)))
+unfolding madeWith viewsOf rowOf
 messages-proposal-as-converged p = differ kind (p 1 (rowOf (3 ∷ []))) tt
 
-pub messages-proposal-of-one-view : ¬ ((v : ℕ) (q : Sequence) → rules.proposal v (leastOf (viewsOf q) ∷ []) ≡ rules.proposal v (viewsOf q))
-unfolding viewsOf rowOf
+pub messages-proposal-of-one-view : ¬ ((v : ℕ) (q : Sequence) → withSequence (rowOf (leastOf (viewsOf q) ∷ [])) (madeWith q (rules.proposal v (viewsOf q))) ≡ madeWith q (rules.proposal v (viewsOf q)))
+unfolding madeWith viewsOf rowOf
 messages-proposal-of-one-view p = differ many (p 1 (rowOf (3 ∷ 7 ∷ []))) tt
 
-pub messages-converged-as-proposal : ¬ ((v : ℕ) (q : Sequence) → rules.proposal v (viewsOf q) ≡ rules.converged v (viewsOf q))
-unfolding viewsOf rowOf
+pub messages-converged-as-proposal : ¬ ((v : ℕ) (q : Sequence) → madeWith q (rules.proposal v (viewsOf q)) ≡ madeWith q (rules.converged v (viewsOf q)))
+unfolding madeWith viewsOf rowOf
 messages-converged-as-proposal p = differ kind (p 1 (rowOf (3 ∷ []))) tt
 
-pub messages-converged-for-the-least : ¬ ((v : ℕ) (q : Sequence) → rules.converged (leastOf (viewsOf q)) (viewsOf q) ≡ rules.converged v (viewsOf q))
-unfolding viewsOf rowOf
+pub messages-converged-for-the-least : ¬ ((v : ℕ) (q : Sequence) → madeWith q (rules.converged (leastOf (viewsOf q)) (viewsOf q)) ≡ madeWith q (rules.converged v (viewsOf q)))
+unfolding madeWith viewsOf rowOf
 messages-converged-for-the-least p = differ about (p 1 (rowOf (3 ∷ []))) tt
 
-pub messages-install-exchanged : ¬ ((o w : ℕ) (q : Sequence) → rules.install w o (viewsOf q) ≡ rules.install o w (viewsOf q))
-unfolding viewsOf rowOf
+pub messages-install-exchanged : ¬ ((o w : ℕ) (q : Sequence) → madeWith q (rules.install w o (viewsOf q)) ≡ madeWith q (rules.install o w (viewsOf q)))
+unfolding madeWith viewsOf rowOf
 messages-install-exchanged p = differ about (p 1 3 (rowOf (3 ∷ []))) tt
 
-pub messages-install-without-its-least : ¬ ((o w : ℕ) (q : Sequence) → rules.install o w (drop 1 (viewsOf q)) ≡ rules.install o w (viewsOf q))
-unfolding viewsOf rowOf
+pub messages-install-without-its-least : ¬ ((o w : ℕ) (q : Sequence) → withSequence (rowOf (drop 1 (viewsOf q))) (madeWith q (rules.install o w (viewsOf q))) ≡ madeWith q (rules.install o w (viewsOf q)))
+unfolding madeWith viewsOf rowOf
 messages-install-without-its-least p = differ many (p 1 3 (rowOf (3 ∷ []))) tt
 
-pub messages-state-without-its-pair : ¬ ((o w : ℕ) (p : Pair) (updates : ℕ) → rules.state o w freshPair updates ≡ rules.state o w p updates)
+pub messages-state-without-its-pair : ¬ ((o w : ℕ) (p : Pair) (updates : ℕ) → made (rules.state o w freshPair updates) ≡ made (rules.state o w p updates))
+unfolding madeWith
 messages-state-without-its-pair p = differ value (p 1 3 pair 4) tt
 
-pub messages-state-without-updates : ¬ ((o w : ℕ) (p : Pair) (updates : ℕ) → rules.state o w p 0 ≡ rules.state o w p updates)
+pub messages-state-without-updates : ¬ ((o w : ℕ) (p : Pair) (updates : ℕ) → made (rules.state o w p 0) ≡ made (rules.state o w p updates))
+unfolding madeWith
 messages-state-without-updates p = differ updates (p 1 3 pair 4) tt
 
-pub messages-get-of-the-next-try : ¬ ((tries c : ℕ) → rules.get (tries + 1) c ≡ rules.get tries c)
+pub messages-get-of-the-next-try : ¬ ((tries c : ℕ) → made (rules.get (tries + 1) c) ≡ made (rules.get tries c))
+unfolding madeWith
 messages-get-of-the-next-try p = differ tries (p 5 1) tt
 
-pub messages-get-exchanged : ¬ ((tries c : ℕ) → rules.get c tries ≡ rules.get tries c)
+pub messages-get-exchanged : ¬ ((tries c : ℕ) → made (rules.get c tries) ≡ made (rules.get tries c))
+unfolding madeWith
 messages-get-exchanged p = differ tries (p 5 1) tt
 
-pub messages-put-as-get : ¬ ((tries c : ℕ) (p : Pair) → rules.get tries c ≡ rules.put tries c p)
+pub messages-put-as-get : ¬ ((tries c : ℕ) (p : Pair) → made (rules.get tries c) ≡ made (rules.put tries c p))
+unfolding madeWith
 messages-put-as-get p = differ kind (p 5 1 pair) tt
 
-pub messages-put-without-its-pair : ¬ ((tries c : ℕ) (p : Pair) → rules.put tries c freshPair ≡ rules.put tries c p)
+pub messages-put-without-its-pair : ¬ ((tries c : ℕ) (p : Pair) → made (rules.put tries c freshPair) ≡ made (rules.put tries c p))
+unfolding madeWith
 messages-put-without-its-pair p = differ value (p 5 1 pair) tt
 
-pub messages-view-reply-as-a-view : ¬ ((tries v : ℕ) → rules.view v ≡ rules.viewReply tries v)
+pub messages-view-reply-as-a-view : ¬ ((tries v : ℕ) → made (rules.view v) ≡ made (rules.viewReply tries v))
+unfolding madeWith
 messages-view-reply-as-a-view p = differ kind (p 5 1) tt
 
-pub messages-view-reply-of-no-try : ¬ ((tries v : ℕ) → rules.viewReply 0 v ≡ rules.viewReply tries v)
+pub messages-view-reply-of-no-try : ¬ ((tries v : ℕ) → made (rules.viewReply 0 v) ≡ made (rules.viewReply tries v))
+unfolding madeWith
 messages-view-reply-of-no-try p = differ tries (p 5 1) tt
 
-pub messages-pair-reply-as-ack : ¬ ((tries : ℕ) (p : Pair) → rules.ack tries ≡ rules.pairReply tries p)
+pub messages-pair-reply-as-ack : ¬ ((tries : ℕ) (p : Pair) → made (rules.ack tries) ≡ made (rules.pairReply tries p))
+unfolding madeWith
 messages-pair-reply-as-ack p = differ kind (p 5 pair) tt
 
-pub messages-pair-reply-without-its-pair : ¬ ((tries : ℕ) (p : Pair) → rules.pairReply tries freshPair ≡ rules.pairReply tries p)
+pub messages-pair-reply-without-its-pair : ¬ ((tries : ℕ) (p : Pair) → made (rules.pairReply tries freshPair) ≡ made (rules.pairReply tries p))
+unfolding madeWith
 messages-pair-reply-without-its-pair p = differ value (p 5 pair) tt
 
-pub messages-ack-of-no-try : ¬ ((tries : ℕ) → rules.ack 0 ≡ rules.ack tries)
+pub messages-ack-of-no-try : ¬ ((tries : ℕ) → made (rules.ack 0) ≡ made (rules.ack tries))
+unfolding madeWith
 messages-ack-of-no-try p = differ tries (p 5) tt
 
-pub messages-ack-as-a-pair : ¬ ((tries : ℕ) → rules.pairReply tries freshPair ≡ rules.ack tries)
+pub messages-ack-as-a-pair : ¬ ((tries : ℕ) → made (rules.pairReply tries freshPair) ≡ made (rules.ack tries))
+unfolding madeWith
 messages-ack-as-a-pair p = differ kind (p 5) tt
 
--- a view message with a field that its kind does not say; a Get of try 5 for view 1
+pub messages-ack-of-kind-0 : ¬ ((tries : ℕ) → ofKind 0 (made (rules.ack tries)) ≡ made (rules.ack tries))
+unfolding madeWith
+messages-ack-of-kind-0 p = differ kind (p 5) tt
+
+-- a view message with two fields that its kind does not say
 abbrev unclean : Body
-unclean = record { kind = 2; first = 1; second = 0; tries = 0; sequence = rowOf []; pair = freshPair; updates = 9 }
+unclean = record { kind = 2; first = 1; second = 0; tries = 0; sequence = rowOf (3 ∷ []); pair = freshPair; updates = 9 }
 
-pub messages-plain-as-it-is : ¬ ((b : Body) → rowOfBody b ≡ bodyRow 0 0 (bodyOf b))
-unfolding bodyOf bodyIn viewsOf rowOf
-messages-plain-as-it-is p = differ (λ m. m .updates) (p unclean) tt
+pub messages-plain-as-it-is : ¬ ((b : Body) → b ≡ madeWith (b .sequence) (bodyOf b))
+unfolding madeWith bodyOf bodyIn
+messages-plain-as-it-is p = differ updates (p unclean) tt
 
-pub messages-plain-emptied : ¬ ((b : Body) → bodyRow 0 0 (rules.ack 0) ≡ bodyRow 0 0 (bodyOf b))
-unfolding bodyOf bodyIn viewsOf rowOf
-messages-plain-emptied p = differ (λ m. m .kind) (p unclean) tt
+pub messages-plain-with-a-sequence-always : ¬ ((b : Body) → withSequence (b .sequence) (madeWith (b .sequence) (bodyOf b)) ≡ madeWith (b .sequence) (bodyOf b))
+unfolding madeWith bodyOf bodyIn rowOf
+messages-plain-with-a-sequence-always p = differ many (p unclean) tt
 
-abbrev receivers : rules.Sending → ℕ
+pub messages-plain-emptied : ¬ ((b : Body) → made (rules.ack 0) ≡ madeWith (b .sequence) (bodyOf b))
+unfolding madeWith bodyOf bodyIn
+messages-plain-emptied p = differ kind (p unclean) tt
+
+abbrev receivers : Sending → ℕ
 receivers s = s .receivers
 
-pub messages-no-sending-of-a-view : ¬ (record { body = rules.view 0; receivers = 0 } ≡ noSending)
-messages-no-sending-of-a-view p = differ (λ (s : rules.Sending). kind (s .body)) p tt
+pub messages-no-sending-of-a-view : ¬ (sendTo 0 (made (rules.view 0)) ≡ sendTo 0 (made (rules.ack 0)))
+unfolding madeWith
+messages-no-sending-of-a-view p = differ (λ (s : Sending). kind (s .body)) p tt
 
-pub messages-no-sending-to-relay-0 : ¬ (rules.toOne 0 (rules.ack 0) ≡ noSending)
+pub messages-no-sending-to-relay-0 : ¬ (sendTo (oneOf 0) (made (rules.ack 0)) ≡ sendTo 0 (made (rules.ack 0)))
 messages-no-sending-to-relay-0 p = differ receivers p tt
 
-pub messages-to-members-who-left-too : ¬ ((v : ℕ) (body : Body) → record { body = bodyOf body; receivers = v % 256 } ≡ rules.toMembers v (bodyOf body))
+pub messages-to-members-who-left-too : ¬ ((v : ℕ) (body : Body) → sendTo (v % 256) body ≡ sendTo (members v) body)
 messages-to-members-who-left-too p = differ receivers (p 257 (blankOf 11)) tt
 
-pub messages-to-members-to-nobody : ¬ ((v : ℕ) (body : Body) → record { body = bodyOf body; receivers = 0 } ≡ rules.toMembers v (bodyOf body))
+pub messages-to-members-to-nobody : ¬ ((v : ℕ) (body : Body) → sendTo 0 body ≡ sendTo (members v) body)
 messages-to-members-to-nobody p = differ receivers (p 3 (blankOf 11)) tt
 
-pub messages-to-both-to-old-members-only : ¬ ((v w : ℕ) (body : Body) → rules.toMembers v (bodyOf body) ≡ rules.toBoth v w (bodyOf body))
+pub messages-to-members-another-body : ¬ ((v : ℕ) (body : Body) → sendTo (members v) (blankOf (body .kind)) ≡ sendTo (members v) body)
+unfolding madeWith blankOf
+messages-to-members-another-body p = differ (λ (s : Sending). tries (s .body)) (p 3 (made (rules.ack 5))) tt
+
+pub messages-to-both-to-old-members-only : ¬ ((v w : ℕ) (body : Body) → sendTo (members v) body ≡ sendTo (joined (members v) (members w)) body)
 messages-to-both-to-old-members-only p = differ receivers (p 1 3 (blankOf 11)) tt
 
-pub messages-to-both-to-members-of-both : ¬ ((v w : ℕ) (body : Body) → record { body = bodyOf body; receivers = bitAnd (membersOf v) (membersOf w) } ≡ rules.toBoth v w (bodyOf body))
+pub messages-to-both-to-members-of-both : ¬ ((v w : ℕ) (body : Body) → sendTo (bitAnd (members v) (members w)) body ≡ sendTo (joined (members v) (members w)) body)
 messages-to-both-to-members-of-both p = differ receivers (p 1 3 (blankOf 11)) tt
 
-pub messages-to-one-number-as-a-set : ¬ ((s : ℕ) (body : Body) → record { body = bodyOf body; receivers = s } ≡ toOneOf s (bodyOf body))
+pub messages-to-one-number-as-a-set : ¬ ((s : ℕ) (body : Body) → sendTo s body ≡ sendTo (oneOf s) body)
 messages-to-one-number-as-a-set p = differ receivers (p 0 (blankOf 11)) tt
 
-pub messages-to-one-to-all : ¬ ((s : ℕ) (body : Body) → rules.toMembers 255 (bodyOf body) ≡ toOneOf s (bodyOf body))
+pub messages-to-one-to-all : ¬ ((s : ℕ) (body : Body) → sendTo (members 255) body ≡ sendTo (oneOf s) body)
 messages-to-one-to-all p = differ receivers (p 0 (blankOf 11)) tt
 
 -- ---- generator
@@ -283,7 +318,7 @@ relay-leave-asked-by-anyone p = differ answer (p 1 (part false 0 1 0)) tt
 
 pub relay-leave-asked-as-a-join : ¬ ((s : ℕ) (p : Part) → planned noRelay (rules.sends (partOf p) (rules.toMembers (partOf p .view) (rules.request (joins s) (partOf p .view)) ∷ [])) ≡ planned noRelay (relays.leaveAsked s (partOf p)))
 unfolding partOf relayOf memberOf relays.leaveAsked planned
-relay-leave-asked-as-a-join p = differ (λ (x : Planned state.Relay). updates (x .first .body)) (p 0 (part true 1 1 0)) tt
+relay-leave-asked-as-a-join p = differ (λ (x : Planned state.Relay). bodyRow 0 0 (x .first .body) .updates) (p 0 (part true 1 1 0)) tt
 
 pub relay-timer-rang-refused-always : ¬ ((p : Part) → planned noRelay (rules.refused rules.not-now) ≡ planned noRelay (timerAnswer (partOf p)))
 unfolding partOf relayOf viewsOf rowOf all timerAnswer relays.timerRang relays.atGenerator generators.fresh generators.generatorFor generators.putGenerator generators.withOwn generators.proposes withGenerators planned

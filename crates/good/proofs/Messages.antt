@@ -12,13 +12,15 @@ use Rattle.rows.specs.Tests.{allZero}
 use Rattle.rows.proofs.All.{all-fails}
 use Rattle.rules.specs.State.{free, waiting}
 use Rattle.rules.specs.WellFormed.{goodPlace}
-use Rattle.rules.specs.Image.{bodyRow, placeBytes, rowBytes, rowAt, placeIn}
+use Rattle.rules.specs.Image.{placeBytes, rowBytes, rowAt, placeIn}
 use Rattle.rules.proofs.ImageZeros.{place-zeros}
 use Rattle.state.specs.declared.Body.{Body}
 use Rattle.state.specs.declared.Message.{Message}
-use Rattle.state.specs.Meaning.{rowOfBody, bodyOf, messageOf}
+use Rattle.state.specs.Meaning.{bodyOf, messageOf}
+use Rattle.messages.specs.Made.{madeWith}
+use Rattle.messages.proofs.Made.{made-row, says-own}
 use Rattle.image.specs.Parts.{messageRow}
-use Rattle.image.proofs.Parts.{place-of, plain-bytes, made-means, made-plain}
+use Rattle.image.proofs.Parts.{place-of, said-bytes}
 use Rattle.good.specs.Rows.{held, sent, placeGood}
 use Rattle.good.proofs.Held.{zero-held}
 
@@ -46,9 +48,6 @@ module _ (l : List ℕ) (o : ℕ) where
     place-waits low high = ap placeIn (sym e) ∙ place-of m low high
 
 -- a message whose body is made plain has the bytes of its place
-pub plain-place : (from to : ℕ) (b plain : Body) → rowOfBody plain ≡ bodyRow 0 0 (bodyOf b)
+pub plain-place : (from to : ℕ) (b plain : Body) → plain ≡ madeWith (b .sequence) (bodyOf b)
     → rowBytes (messageRow (record { from = from; to = to; body = plain })) ≡ placeBytes (sent from to (bodyOf b))
-unfolding messageOf
-plain-place from to b plain e =
-    let m : Message = record { from = from; to = to; body = plain } in
-    plain-bytes m (made-plain plain (bodyOf b) e) ∙ rw (made-means plain (bodyOf b) e)
+plain-place from to b plain e = said-bytes (record { from = from; to = to; body = plain }) (bodyOf b) (made-row _ _ e (says-own b))

@@ -11,13 +11,12 @@ use Rattle.views.specs.Row.{viewsOf}
 use Rattle.rules.specs.Sets.{if_then_else_, _&&_, those}
 use Rattle.rules.specs.State.{Generator, Transfer, free, waiting}
 use Rattle.rules.specs.Messages as rules
-use Rattle.rules.specs.Image.{bodyRow, placeRow, bodyIn, placeIn, rowBytes, placeBytes, headBytes, relayAt, generatorAt, transferAt, filledGenerator, filledTransfer}
+use Rattle.rules.specs.Image.{bodyRow, bodyIn, placeIn, rowBytes, placeBytes, headBytes, relayAt, generatorAt, transferAt, filledGenerator, filledTransfer}
 use Rattle.rules.proofs.ImageRows.{addressed, row-of}
 use Rattle.state.specs.declared.Head.{Head}
-use Rattle.state.specs.declared.Body.{Body}
 use Rattle.state.specs.declared.Message.{Message}
 use Rattle.state.specs.Meaning.{rowOfBody, relayOf, bodyOf, messageOf}
-use Rattle.image.specs.Parts.{headAt, messageRow, Plain}
+use Rattle.image.specs.Parts.{headAt, messageRow}
 
 -- ---- a relay is its head with its two tables
 
@@ -48,22 +47,9 @@ module _ (m : Message) where
   pub place-of : 1 ≤ m .body .kind → m .body .kind ≤ 11 → placeIn (messageRow m) ≡ waiting (messageOf m)
   place-of low high = place-is ∙ rw (le-leb 1 (m .body .kind) low, le-leb (m .body .kind) 11 high)
 
--- ---- a plain body's row is the row of what it says
+-- ---- a message whose body has the row of what is said has the bytes of the place where that waits
 
-module _ (b : Body) (x : rules.Body) (e : rowOfBody b ≡ bodyRow 0 0 x) where
-  -- a body's row says the body: so of a body that is made for x it is enough to say its row
-  pub made-means : bodyOf b ≡ x
-  unfolding bodyOf
-  made-means = ap bodyIn e ∙ row-of 0 0 x .says
-
-  pub made-plain : Plain b
-  made-plain = record { is = e ∙ ap (bodyRow 0 0) (sym made-means) }
-
-module _ (m : Message) (p : Plain (m .body)) where
-  pub plain-row : messageRow m ≡ placeRow (waiting (messageOf m))
-  unfolding messageRow messageOf addressed
-  plain-row = ap (addressed (m .from) (m .to)) (p .is) ∙ sym (row-of (m .from) (m .to) (bodyOf (m .body)) .ends)
-
-  pub plain-bytes : rowBytes (messageRow m) ≡ placeBytes (waiting (messageOf m))
-  unfolding placeBytes
-  plain-bytes = ap rowBytes plain-row
+pub said-bytes : (m : Message) (x : rules.Body) → rowOfBody (m .body) ≡ bodyRow 0 0 x
+    → rowBytes (messageRow m) ≡ placeBytes (waiting (record { from = m .from; to = m .to; body = x }))
+unfolding placeBytes messageRow addressed
+said-bytes m x e = ap rowBytes (ap (addressed (m .from) (m .to)) e ∙ sym (row-of (m .from) (m .to) x .ends))

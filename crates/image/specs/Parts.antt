@@ -1,14 +1,12 @@
 -- What the code reads and writes at once and Image has no name for: eight notes, a relay without its tables, a message as the code holds it.
 -- Assumes nothing.
-use mathlib.Core.Path.{_≡_}
 use mathlib.Core.List.{List, []}
 use Prim.Native.Nat.{ℕ, _+_, _*_}
 use Rattle.rows.specs.Bytes.{u16At, tab, table}
-use Rattle.rules.specs.Image.{Row, bodyRow, flagAt, sequenceBytes, sequenceAt, pairAt}
+use Rattle.rules.specs.Image.{Row, flagAt, sequenceBytes, sequenceAt, pairAt}
 use Rattle.state.specs.declared.Head.{Head}
-use Rattle.state.specs.declared.Body.{Body}
 use Rattle.state.specs.declared.Message.{Message}
-use Rattle.state.specs.Meaning.{addressedRow, rowOfBody, bodyOf}
+use Rattle.state.specs.Meaning.{addressedRow}
 
 unfoldable pub notesBytes : List (List ℕ) → List ℕ
 notesBytes qs = table sequenceBytes [] 8 qs
@@ -31,7 +29,3 @@ headAt b i =
 
 unfoldable pub messageRow : Message → Row
 messageRow m = addressedRow (m .from) (m .to) (m .body)
-
--- "unused room is zero": a body says what its kind says, and every other field is zero
-pub record Plain (b : Body) : Type 0 where
-  pub is : rowOfBody b ≡ bodyRow 0 0 (bodyOf b)

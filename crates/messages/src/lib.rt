@@ -1,11 +1,11 @@
 // The messages' bodies, and to whom they are sent. Document 01, "Steps", "Delivery at a relay", "Delivery at a desk".
 ghost use mathlib.Core.Path.{_≡_};
 ghost use Rattle.views.specs.Row.{viewsOf};
+ghost use Rattle.rules.specs.Sets.{members, joined};
 ghost use Rattle.rules.specs.Messages as rules;
-ghost use Rattle.rules.specs.Image.{row, bodyRow, tryIn};
-ghost use Rattle.state.specs.Meaning.{rowOfBody, bodyOf, sendingOf};
-ghost use Rattle.state.specs.Plans.{noSending};
-ghost use Rattle.messages.specs.Made.{blankOf, toOneOf};
+ghost use Rattle.rules.specs.Image.{tryIn};
+ghost use Rattle.state.specs.Meaning.{rowOfBody, bodyOf};
+ghost use Rattle.messages.specs.Made.{blankOf, madeWith, made, sendTo, oneOf};
 use stamps::Pair;
 use state::Body;
 use state::Sending;
@@ -26,7 +26,7 @@ fn blank(kind: u8) -> Body
 }
 
 pub fn request(u: u16, c: u16) -> Body
-    ensures { λ r. ⌜ bodyOf r ≡ rules.request u c ⌝ }
+    ensures { λ r. ⌜ r ≡ made (rules.request u c) ⌝ }
 {
     let mut b = blank(1);
     b.first = c;
@@ -35,7 +35,7 @@ pub fn request(u: u16, c: u16) -> Body
 }
 
 pub fn view(v: u16) -> Body
-    ensures { λ r. ⌜ bodyOf r ≡ rules.view v ⌝ }
+    ensures { λ r. ⌜ r ≡ made (rules.view v) ⌝ }
 {
     let mut b = blank(2);
     b.first = v;
@@ -43,7 +43,7 @@ pub fn view(v: u16) -> Body
 }
 
 pub fn proposal(v: u16, q: Sequence) -> Body
-    ensures { λ r. ⌜ bodyOf r ≡ rules.proposal v (viewsOf q) ⌝ }
+    ensures { λ r. ⌜ r ≡ madeWith q (rules.proposal v (viewsOf q)) ⌝ }
 {
     let mut b = blank(3);
     b.first = v;
@@ -52,7 +52,7 @@ pub fn proposal(v: u16, q: Sequence) -> Body
 }
 
 pub fn converged(v: u16, q: Sequence) -> Body
-    ensures { λ r. ⌜ bodyOf r ≡ rules.converged v (viewsOf q) ⌝ }
+    ensures { λ r. ⌜ r ≡ madeWith q (rules.converged v (viewsOf q)) ⌝ }
 {
     let mut b = blank(4);
     b.first = v;
@@ -61,7 +61,7 @@ pub fn converged(v: u16, q: Sequence) -> Body
 }
 
 pub fn install(o: u16, w: u16, q: Sequence) -> Body
-    ensures { λ r. ⌜ bodyOf r ≡ rules.install o w (viewsOf q) ⌝ }
+    ensures { λ r. ⌜ r ≡ madeWith q (rules.install o w (viewsOf q)) ⌝ }
 {
     let mut b = blank(5);
     b.first = o;
@@ -71,7 +71,7 @@ pub fn install(o: u16, w: u16, q: Sequence) -> Body
 }
 
 pub fn state(o: u16, w: u16, p: Pair, updates: u16) -> Body
-    ensures { λ r. ⌜ bodyOf r ≡ rules.state o w p updates ⌝ }
+    ensures { λ r. ⌜ r ≡ made (rules.state o w p updates) ⌝ }
 {
     let mut b = blank(6);
     b.first = o;
@@ -82,7 +82,7 @@ pub fn state(o: u16, w: u16, p: Pair, updates: u16) -> Body
 }
 
 pub fn get(tries: u16, c: u16) -> Body
-    ensures { λ r. ⌜ bodyOf r ≡ rules.get tries c ⌝ }
+    ensures { λ r. ⌜ r ≡ made (rules.get tries c) ⌝ }
 {
     let mut b = blank(7);
     b.tries = tries;
@@ -91,7 +91,7 @@ pub fn get(tries: u16, c: u16) -> Body
 }
 
 pub fn put(tries: u16, c: u16, p: Pair) -> Body
-    ensures { λ r. ⌜ bodyOf r ≡ rules.put tries c p ⌝ }
+    ensures { λ r. ⌜ r ≡ made (rules.put tries c p) ⌝ }
 {
     let mut b = blank(8);
     b.tries = tries;
@@ -101,7 +101,7 @@ pub fn put(tries: u16, c: u16, p: Pair) -> Body
 }
 
 pub fn view_reply(tries: u16, v: u16) -> Body
-    ensures { λ r. ⌜ bodyOf r ≡ rules.viewReply tries v ⌝ }
+    ensures { λ r. ⌜ r ≡ made (rules.viewReply tries v) ⌝ }
 {
     let mut b = blank(9);
     b.tries = tries;
@@ -110,7 +110,7 @@ pub fn view_reply(tries: u16, v: u16) -> Body
 }
 
 pub fn pair_reply(tries: u16, p: Pair) -> Body
-    ensures { λ r. ⌜ bodyOf r ≡ rules.pairReply tries p ⌝ }
+    ensures { λ r. ⌜ r ≡ made (rules.pairReply tries p) ⌝ }
 {
     let mut b = blank(10);
     b.tries = tries;
@@ -119,7 +119,7 @@ pub fn pair_reply(tries: u16, p: Pair) -> Body
 }
 
 pub fn ack(tries: u16) -> Body
-    ensures { λ r. ⌜ bodyOf r ≡ rules.ack tries ⌝ }
+    ensures { λ r. ⌜ r ≡ made (rules.ack tries) ⌝ }
 {
     let mut b = blank(11);
     b.tries = tries;
@@ -135,7 +135,7 @@ fn says(
     pair: Pair,
     updates: u16,
 ) -> Body
-    ensures { λ r. ⌜ rowOfBody r ≡ row kind 0 0 first second tries (viewsOf sequence) pair updates ⌝ }
+    ensures { λ r. ⌜ r ≡ record { kind = kind; first = first; second = second; tries = tries; sequence = sequence; pair = pair; updates = updates } ⌝ }
 {
     Body {
         kind: kind,
@@ -150,7 +150,7 @@ fn says(
 
 // The same body as its own kind has it: "unused room is zero". A number that is no kind is an acknowledgement's.
 pub fn plain(b: Body) -> Body
-    ensures { λ r. ⌜ rowOfBody r ≡ bodyRow 0 0 (bodyOf b) ⌝ }
+    ensures { λ r. ⌜ r ≡ madeWith (b .sequence) (bodyOf b) ⌝ }
 {
     let kind = b.kind;
     let q = b.sequence;
@@ -180,7 +180,7 @@ pub fn plain(b: Body) -> Body
 
 // The kinds that have a try.
 fn plain_try(b: Body) -> Body
-    ensures { λ r. ⌜ rowOfBody r ≡ bodyRow 0 0 (tryIn (rowOfBody b)) ⌝ }
+    ensures { λ r. ⌜ r ≡ madeWith (b .sequence) (tryIn (rowOfBody b)) ⌝ }
 {
     let kind = b.kind;
     let p = b.pair;
@@ -202,7 +202,7 @@ fn plain_try(b: Body) -> Body
 }
 
 pub fn no_sending() -> Sending
-    ensures { λ r. ⌜ sendingOf r ≡ noSending ⌝ }
+    ensures { λ r. ⌜ r ≡ sendTo 0 (made (rules.ack 0)) ⌝ }
 {
     Sending {
         body: ack(0),
@@ -211,7 +211,7 @@ pub fn no_sending() -> Sending
 }
 
 pub fn to_members(v: u16, body: Body) -> Sending
-    ensures { λ r. ⌜ sendingOf r ≡ rules.toMembers v (bodyOf body) ⌝ }
+    ensures { λ r. ⌜ r ≡ sendTo (members v) body ⌝ }
 {
     Sending {
         body: body,
@@ -220,7 +220,7 @@ pub fn to_members(v: u16, body: Body) -> Sending
 }
 
 pub fn to_both(v: u16, w: u16, body: Body) -> Sending
-    ensures { λ r. ⌜ sendingOf r ≡ rules.toBoth v w (bodyOf body) ⌝ }
+    ensures { λ r. ⌜ r ≡ sendTo (joined (members v) (members w)) body ⌝ }
 {
     let both = views::join(views::members(v) as u16, views::members(w) as u16);
     Sending {
@@ -230,7 +230,7 @@ pub fn to_both(v: u16, w: u16, body: Body) -> Sending
 }
 
 pub fn to_one(s: u8, body: Body) -> Sending
-    ensures { λ r. ⌜ sendingOf r ≡ toOneOf s (bodyOf body) ⌝ }
+    ensures { λ r. ⌜ r ≡ sendTo (oneOf s) body ⌝ }
 {
     if 15 < s {
         return Sending {

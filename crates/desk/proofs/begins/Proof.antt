@@ -5,6 +5,7 @@ use Rattle.rules.specs.Messages.{worn}
 use Rattle.rules.specs.Desks.{begins, begun}
 use Rattle.state.specs.Meaning.{eventOf}
 use Rattle.state.specs.Plans.{planned, deskPlanOf}
+use Rattle.messages.proofs.Made.{sent-says}
 use Rattle.desk.proofs.begins.Statement.{statement}
 use Rattle.desk.proofs.begins.Tie as tie
 
@@ -16,7 +17,7 @@ returns-2 : tie.Need-returns-2
 unfolding begins begun planned deskPlanOf eventOf
 returns-2 c =
     let c3 = c .before .before .before in
-    rw (c .to-members .ensures, c .before .asks .ensures, c .before .before .begun .ensures, lt-leb _ _ (c3 .if1 .left))
+    rw (sent-says (c .to-members .ensures) (c .before .asks .ensures), c .before .before .begun .ensures, lt-leb _ _ (c3 .if1 .left))
 
 pub begins-spec : {M : Type 1} → statement M
 begins-spec = tie.close (tie.spec (λ c κs. tt) returns (λ c κs. tt) (λ c κs. tt) (λ c κs. tt) returns-2)

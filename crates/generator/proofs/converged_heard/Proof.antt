@@ -1,5 +1,5 @@
 -- `generator::converged_heard` meets its contract. Assumes nothing.
-use mathlib.Core.Path.{_≡_, ap, _∙_}
+use mathlib.Core.Path.{_≡_, refl, ap, _∙_}
 use mathlib.Core.List.{List}
 use Prim.Native.Nat.{ℕ}
 use lib.ListN.{set}
@@ -8,6 +8,7 @@ use Rattle.views.specs.Row.{viewsOf}
 use Rattle.rules.specs.Sets.{same}
 use Rattle.rules.specs.Generators.{agree, notesConverged, raises, convergedHeard}
 use Rattle.state.specs.Meaning.{notesOf, generatorOf}
+use Rattle.messages.proofs.Made.{made-says, sent-says}
 use Rattle.generator.proofs.converged_heard.Statement.{statement}
 use Rattle.generator.proofs.converged_heard.Tie as tie
 
@@ -44,7 +45,7 @@ returns-3 c =
     let t = to .before .before .before in
     let w = t .before .before in
     c .sends .ensures
-    ∙ rw (c .before .to-both .ensures, to .install .ensures, to .before .least .ensures)
+    ∙ rw (sent-says (c .before .to-both .ensures) (made-says _ _ (to .install .ensures) refl), to .before .least .ensures)
     (rw (w .before .noted .ensures, ← asked w, not-false (w .agree .result) (t .before .if1 .left), ← repeats t, to .before .before .if2 .left))
 
 pub converged-heard-spec : {M : Type 1} → statement M

@@ -1,5 +1,5 @@
 -- `generator::proposal_heard` meets its contract. Assumes nothing.
-use mathlib.Core.Path.{_≡_, sym, ap, _∙_}
+use mathlib.Core.Path.{_≡_, refl, sym, ap, _∙_}
 use mathlib.Core.Bool.{true, false}
 use borrow.Author.Tests.{not-true, not-false}
 use Rattle.views.specs.Row.{viewsOf}
@@ -9,6 +9,7 @@ use Rattle.rules.specs.State.{Generator}
 use Rattle.rules.specs.Generators.{settles}
 use Rattle.state.specs.Meaning.{generatorOf, sendingOf}
 use Rattle.state.specs.Plans.{turnOf, turned}
+use Rattle.messages.proofs.Made.{made-says, sent-says}
 use Rattle.generator.specs.Heard.{mergedInRow, hearsInRow, heardInRow}
 use Rattle.generator.proofs.proposal_heard.Statement.{statement}
 use Rattle.generator.proofs.proposal_heard.Tie as tie
@@ -31,8 +32,8 @@ returns-2 c =
     let h : Generator = mergedInRow (generatorOf (a .g)) (a .from) (viewsOf (a .q)) in
     let rest : turnOf (t .before .settles .result) ≡ turned (settles h) = t .before .settles .ensures ∙ rw (m .merged .ensures) in
     let sent : sendingOf (c .to-members .result) ≡ toMembers (a .g .view) (proposal (a .g .view) (h .own)) =
-    c .to-members .ensures
-    ∙ rw (c .before .proposal .ensures) (ap (λ (k : Generator). toMembers (a .g .view) (proposal (a .g .view) (k .own))) (m .merged .ensures)) in
+    sent-says (c .to-members .ensures)
+    (made-says _ _ (c .before .proposal .ensures) refl ∙ ap (λ (k : Generator). proposal (a .g .view) (k .own)) (m .merged .ensures)) in
     rw e (λ i. record { next = rest i .next; first = sent i; second = rest i .first })
 
 pub proposal-heard-spec : {M : Type 1} → statement M

@@ -1,5 +1,5 @@
 -- `generator::proposes` meets its contract. Assumes nothing.
-use mathlib.Core.Path.{_≡_, _∙_}
+use mathlib.Core.Path.{_≡_, refl, _∙_}
 use native.Mathlib.Omega.{arith}
 use mathlib.Core.Bool.{true, false}
 use mathlib.Core.List.{List}
@@ -9,6 +9,7 @@ use Rattle.rules.specs.Sets.{none}
 use Rattle.rules.specs.Generators.{proposes, withOwn}
 use Rattle.state.specs.Meaning.{generatorOf}
 use Rattle.rules.proofs.Lists.{none-test, some-test}
+use Rattle.messages.proofs.Made.{made-says, sent-says}
 use Rattle.generator.proofs.proposes.Statement.{statement}
 use Rattle.generator.proofs.proposes.Tie as tie
 
@@ -27,7 +28,7 @@ returns-2 c =
     let s = to .before .before in
     let own : List ℕ = viewsOf (s .before .before .args .g .own) in
     let e : none own ≡ true = none-test own (omega (arith, to .before .if1 .left, s .count .ensures .0)) in
-    c .sends .ensures ∙ rw (c .before .to-members .ensures, to .proposal .ensures, e)
+    c .sends .ensures ∙ rw (sent-says (c .before .to-members .ensures) (made-says _ _ (to .proposal .ensures) refl), e)
 
 pub proposes-spec : {M : Type 1} → statement M
 proposes-spec = tie.close (tie.spec (λ c κs. tt) (λ c κs. tt) returns (λ c κs. tt) (λ c κs. tt) (λ c κs. tt) returns-2)

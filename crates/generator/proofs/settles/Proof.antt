@@ -1,11 +1,12 @@
 -- `generator::settles` meets its contract. Assumes nothing.
-use mathlib.Core.Path.{_≡_, sym, _∙_}
+use mathlib.Core.Path.{_≡_, refl, sym, _∙_}
 use mathlib.Core.Bool.{true, false}
 use borrow.Author.Tests.{not-true, not-false}
 use Rattle.views.specs.Row.{viewsOf}
 use Rattle.rules.specs.Sets.{same}
 use Rattle.rules.specs.Generators.{agree, settles}
 use Rattle.state.specs.Meaning.{notesOf, generatorOf}
+use Rattle.messages.proofs.Made.{made-says, sent-says}
 use Rattle.generator.proofs.settles.Statement.{statement}
 use Rattle.generator.proofs.settles.Tie as tie
 
@@ -37,7 +38,7 @@ returns-3 c =
     let l = a .before .before in
     let g = l .before .before .before .before .args .g in
     let f : agree (g .view) (notesOf (g .proposals)) (viewsOf (g .own)) ≡ true = sym (a .agree .ensures) ∙ not-false _ (to .before .if2 .left) in
-    c .sends .ensures ∙ rw (c .before .to-members .ensures, to .converged2 .ensures, differs l, f)
+    c .sends .ensures ∙ rw (sent-says (c .before .to-members .ensures) (made-says _ _ (to .converged2 .ensures) refl), differs l, f)
 
 pub settles-spec : {M : Type 1} → statement M
 settles-spec = tie.close (tie.spec (λ c κs. tt) (λ c κs. tt) returns (λ c κs. tt) (λ c κs. tt) returns-2 (λ c κs. tt) (λ c κs. tt) (λ c κs. tt) returns-3)

@@ -1,10 +1,8 @@
 -- `messages::no_sending` meets its contract. Assumes nothing.
-use Rattle.state.specs.Meaning.{sendingOf}
 use Rattle.messages.proofs.no_sending.Statement.{statement}
 use Rattle.messages.proofs.no_sending.Tie as tie
 
 returns : tie.Need-returns
-unfolding sendingOf
 returns c = rw (c .ack .ensures)
 
 pub no-sending-spec : {M : Type 1} → statement M

@@ -1,11 +1,9 @@
 -- `messages::to_both` meets its contract. Assumes nothing.
 use borrow.Author.Needs.{needs}
-use Rattle.state.specs.Meaning.{sendingOf}
 use Rattle.messages.proofs.to_both.Statement.{statement}
 use Rattle.messages.proofs.to_both.Tie as tie
 
 returns : tie.Need-returns
-unfolding sendingOf
 returns c = rw (c .join .ensures, c .before .before .members .ensures, c .before .members2 .ensures)
 
 pub to-both-spec : {M : Type 1} → statement M

@@ -1,11 +1,9 @@
 -- `messages::to_members` meets its contract. Assumes nothing.
 use borrow.Author.Needs.{needs}
-use Rattle.state.specs.Meaning.{sendingOf}
 use Rattle.messages.proofs.to_members.Statement.{statement}
 use Rattle.messages.proofs.to_members.Tie as tie
 
 returns : tie.Need-returns
-unfolding sendingOf
 returns c = rw (c .members .ensures)
 
 pub to-members-spec : {M : Type 1} → statement M

@@ -5,16 +5,13 @@ use native.Mathlib.Omega.{arith}
 use lib.Pow.{shl-exact}
 use borrow.Author.Needs.{needs}
 use borrow.Author.Tests.{lt-ltb, le-ltb}
-use Rattle.state.specs.Meaning.{sendingOf}
 use Rattle.messages.proofs.to_one.Statement.{statement}
 use Rattle.messages.proofs.to_one.Tie as tie
 
 returns : tie.Need-returns
-unfolding sendingOf
 returns c = rw (le-ltb (c .before .args .s) 16 (c .if1 .taken))
 
 returns-2 : tie.Need-returns-2
-unfolding sendingOf
 returns-2 c =
     let s : ℕ = c .before .args .s in
     let below : s < 16 = omega arith in

@@ -9,6 +9,7 @@ use Rattle.rules.specs.State.{noRelay}
 use Rattle.rules.specs.Relays.{stopped, installHeard}
 use Rattle.state.specs.Meaning.{relayOf, partOf}
 use Rattle.state.specs.Plans.{planOf, planned}
+use Rattle.messages.proofs.Made.{none, made-says, sent-says}
 use Rattle.relay.proofs.Laws.{install-done, sent-none, stopped-shows}
 use Rattle.relay.proofs.install_heard.Statement.{statement}
 use Rattle.relay.proofs.install_heard.Tie as tie
@@ -61,8 +62,7 @@ returns-4 c =
       sym (c8 .before .early .ensures) ∙ c8 .if2 .left,
       d .is,
       sym (c5 .is-member .ensures) ∙ not-false _ (c2 .before .before .if3 .left),
-      c .before .to-members .ensures,
-      c2 .state .ensures,
+      sent-says (c .before .to-members .ensures) (made-says _ _ (c2 .state .ensures) none),
     )
 
 pub install-heard-spec : {M : Type 1} → statement M

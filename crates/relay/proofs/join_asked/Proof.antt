@@ -7,6 +7,7 @@ use Rattle.rules.specs.Sets.{joins, within}
 use Rattle.rules.specs.Messages.{bad-step, not-now}
 use Rattle.rules.specs.Relays.{joinAsked}
 use Rattle.state.specs.Meaning.{relayOf, partOf}
+use Rattle.messages.proofs.Made.{none, made-says, sent-says}
 use Rattle.relay.specs.Fitting.{joinAnswer}
 use Rattle.relay.proofs.Laws.{one-shl}
 use Rattle.relay.proofs.join_asked.Statement.{statement}
@@ -41,8 +42,7 @@ returns-4 c =
     let m = one-shl (c5 .before .before .args .s) 16 (omega (arith, c5 .before .if1 .left)) in
     let u : within (joins (c5 .before .before .args .s)) (c5 .before .before .args .p .head .known) ≡ false = rw m at (sym (c2 .before .before .within .ensures) ∙ c2 .before .if3 .left) in
     c .sends .ensures ∙ rw (
-      c .before .to-members .ensures,
-      c2 .request .ensures,
+      sent-says (c .before .to-members .ensures) (made-says _ _ (c2 .request .ensures) none),
       m,
       lt-ltb (c5 .before .before .args .s) 8 (c5 .before .if1 .left),
       c5 .if2 .left,

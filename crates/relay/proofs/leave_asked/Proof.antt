@@ -6,6 +6,7 @@ use Rattle.views.proofs.Sets.{member-lt}
 use Rattle.rules.specs.Messages.{not-now}
 use Rattle.rules.specs.Relays.{leaveAsked}
 use Rattle.state.specs.Meaning.{relayOf, partOf}
+use Rattle.messages.proofs.Made.{none, made-says, sent-says}
 use Rattle.relay.proofs.Laws.{high-shl}
 use Rattle.relay.proofs.leave_asked.Statement.{statement}
 use Rattle.relay.proofs.leave_asked.Tie as tie
@@ -25,8 +26,7 @@ returns-2 c =
     let c2 = c .before .before in
     let c5 = c2 .before .before .before in
     c .sends .ensures ∙ rw (
-      c .before .to-members .ensures,
-      c2 .request .ensures,
+      sent-says (c .before .to-members .ensures) (made-says _ _ (c2 .request .ensures) none),
       high-shl (c5 .args .s) (member-lt (c5 .args .p .head .view) (c5 .args .s) (sym (c2 .before .before .is-member .ensures) ∙ not-false _ (c2 .before .if1 .left))),
       sym (c2 .before .before .is-member .ensures) ∙ not-false _ (c2 .before .if1 .left),
     )

@@ -6,6 +6,7 @@ use Rattle.rules.specs.Messages.{bad-step}
 use Rattle.rules.specs.State.{withPending}
 use Rattle.rules.specs.Relays.{requestHeard}
 use Rattle.state.specs.Meaning.{relayOf, partOf}
+use Rattle.messages.proofs.Made.{none, made-says, sent-says}
 use Rattle.relay.proofs.request_heard.Statement.{statement}
 use Rattle.relay.proofs.request_heard.Tie as tie
 
@@ -27,9 +28,8 @@ returns-3 c =
     let c2 = c .before .before in
     let c6 = c2 .before .before .before .before in
     c .sends .ensures ∙ rw (
-      c .before .to-one .ensures,
+      sent-says (c .before .to-one .ensures) (made-says _ _ (c2 .view .ensures) none),
       lt-ltb (c6 .before .args .from) 16 (omega (arith, c6 .if1 .left)),
-      c2 .view .ensures,
       lt-ltb (c6 .before .args .from) 12 (c6 .if1 .left),
       not-false (c6 .before .args .p .head .entered) (c2 .before .before .if2 .left),
       ne-eqb _ _ (c2 .before .if3 .taken),

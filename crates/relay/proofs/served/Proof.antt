@@ -4,6 +4,7 @@ use native.Mathlib.Omega.{arith}
 use borrow.Author.Tests.{lt-ltb, le-ltb, not-true, not-false}
 use Rattle.rules.specs.Messages.{bad-step, not-yet}
 use Rattle.state.specs.Meaning.{relayOf, partOf}
+use Rattle.messages.proofs.Made.{none, made-says, sent-says}
 use Rattle.relay.proofs.served.Statement.{statement}
 use Rattle.relay.proofs.served.Tie as tie
 
@@ -26,9 +27,8 @@ returns-3 c =
     let c5 = c2 .before .before .before in
     let c8 = c5 .before .before .before in
     c .sends .ensures ∙ rw (
-      c .before .to-one .ensures,
+      sent-says (c .before .to-one .ensures) (made-says _ _ (c2 .view-reply .ensures) none),
       lt-ltb (c8 .args .from) 16 (omega (arith, c5 .before .before .if1 .left)),
-      c2 .view-reply .ensures,
       lt-ltb (c8 .args .from) 12 (c5 .before .before .if1 .left),
       sym (c5 .before .serves .ensures) ∙ not-false _ (c5 .if2 .left),
       sym (c2 .before .before .inside .ensures) ∙ c2 .before .if3 .taken,
@@ -41,7 +41,7 @@ returns-4 c =
     let c4 = c1 .before .before .before in
     let c7 = c4 .before .before in
     c .sends2 .ensures ∙ rw (
-      c1 .to-one2 .ensures,
+      sent-says (c1 .to-one2 .ensures) refl,
       lt-ltb (c7 .before .args .from) 16 (omega (arith, c7 .if1 .left)),
       lt-ltb (c7 .before .args .from) 12 (c7 .if1 .left),
       sym (c4 .before .serves .ensures) ∙ not-false _ (c4 .if2 .left),
