@@ -9,7 +9,7 @@ use mathlib.Core.List.{List, [], _∷_}
 use Prim.Native.Nat.{ℕ, _+_, _≤_, min}
 use lib.Bits.{bitOr}
 use lib.Dec.{eqb, leb}
-use lib.ListN.{length, getD, set}
+use lib.ListN.{length, getD}
 use denote.Ref.{RefT, now}
 use Rattle.views.specs.View.{membersOf, memberOf, quorumOf, reachesOf, withinOf, insideOf, clashOf}
 use Rattle.views.specs.Chain.{hasOf, lacksOf, conflictOf, sameOf, leastOf, mostOf, plusOf, unionOf, heardOf, beyondOf, aboveOf}
@@ -48,6 +48,7 @@ use Rattle.state.specs.Meaning.{notesOf, generatorOf, transferOf, relayOf, part
 use Rattle.state.specs.Plans.{turnOf, turned, planOf, deskPlanOf, planned}
 use Rattle.messages.specs.Made.{madeWith, made, sendTo, oneOf}
 use Rattle.generator.specs.Heard.{heardInRow}
+use Rattle.generator.specs.Rows.{freshRow, notedRow}
 use Rattle.relay.specs.Fitting.{joinAnswer, timerAnswer, hearsAnswer}
 use Rattle.desk.specs.Replies.{replyNoted}
 use Rattle.image.specs.Parts.{notesBytes, notesAt, headAt, messageRow}
@@ -266,11 +267,11 @@ messages-to-one s body = by-equation (sendTo (oneOf s) body)
 
 -- ---- generator
 
-pub generator-fresh : (v : ℕ) → DeterminedBy generatorOf (λ r. generatorOf r ≡ generators.fresh v)
-generator-fresh v = by-meaning generatorOf (generators.fresh v)
+pub generator-fresh : (v : ℕ) → Determined (λ r. r ≡ freshRow v)
+generator-fresh v = by-equation (freshRow v)
 
-pub generator-noted : (n : Notes) (from : ℕ) (q : Sequence) → DeterminedBy notesOf (λ r. notesOf r ≡ set (notesOf n) from (viewsOf q))
-generator-noted n from q = by-meaning notesOf (set (notesOf n) from (viewsOf q))
+pub generator-noted : (n : Notes) (from : ℕ) (q : Sequence) → Determined (λ r. r ≡ notedRow n from q)
+generator-noted n from q = by-equation (notedRow n from q)
 
 pub generator-agreeing : (n : Notes) (q : Sequence) → Determined (λ r. r ≡ generators.agreeing (notesOf n) (viewsOf q))
 generator-agreeing n q = by-equation (generators.agreeing (notesOf n) (viewsOf q))

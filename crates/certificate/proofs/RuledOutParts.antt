@@ -7,7 +7,7 @@ use Prim.Native.Nat.{ℕ, _+_, _%_}
 use lib.Bits.{bitAnd}
 use lib.Count.{ones, onesIn}
 use lib.Dec.{eqb, leb}
-use lib.ListN.{length, getD, set, drop, replicate}
+use lib.ListN.{length, getD, drop, replicate}
 use Rattle.views.specs.View.{memberOf, quorumOf, reachesOf, insideOf, clashOf}
 use Rattle.views.specs.Chain.{some, sameOf, leastOf, plusOf, unionOf, heardOf}
 use Rattle.views.specs.Row.{viewsOf, rowOf}
@@ -36,6 +36,7 @@ use Rattle.state.specs.Meaning.{notesOf, generatorOf, relayOf, partOf, bodyOf}
 use Rattle.state.specs.Plans.{Turned, turned, Planned, planned}
 use Rattle.messages.specs.Made.{blankOf, madeWith, made, sendTo, oneOf}
 use Rattle.generator.specs.Heard.{mergedInRow, hearsInRow, heardInRow}
+use Rattle.generator.specs.Rows.{noNotes, freshRow, notedRow}
 use Rattle.relay.specs.Fitting.{fitting, joinAnswer, timerAnswer, hearsAnswer}
 use Rattle.relay.specs.Fitting as fit
 use Rattle.desk.specs.Replies.{replyNoted}
@@ -212,35 +213,32 @@ messages-to-one-to-all p = differ receivers (p 0 (blankOf 11)) tt
 
 -- ---- generator
 
-abbrev notes : Notes
-notes = record { of = replicate 8 (rowOf []) }
-
 -- relay 1 alone has noted {3}
 abbrev noteOfOne : Notes
 noteOfOne = record { of = rowOf [] ∷ rowOf (3 ∷ []) ∷ replicate 6 (rowOf []) }
 
 -- the generator for v, with this own and this last raised sequence, and nothing else
 abbrev generator : ℕ → List ℕ → List ℕ → Generator
-generator v own raised = record { view = v; own = rowOf own; converged = rowOf []; raised = rowOf raised; proposals = notes; convergences = notes }
+generator v own raised = record { view = v; own = rowOf own; converged = rowOf []; raised = rowOf raised; proposals = noNotes; convergences = noNotes }
 
-pub generator-fresh-of-no-view : ¬ ((v : ℕ) → generators.fresh 0 ≡ generators.fresh v)
-unfolding generators.fresh
-generator-fresh-of-no-view p = differ (λ g. g .view) (p 1) tt
+pub generator-fresh-of-no-view : ¬ ((v : ℕ) → freshRow 0 ≡ freshRow v)
+unfolding freshRow
+generator-fresh-of-no-view p = differ (λ (g : Generator). g .view) (p 1) tt
 
-pub generator-fresh-proposes-its-view : ¬ ((v : ℕ) → generators.withOwn (generators.fresh v) (v ∷ []) ≡ generators.fresh v)
-unfolding generators.fresh generators.withOwn
-generator-fresh-proposes-its-view p = differ (λ g. length (g .own)) (p 1) tt
+pub generator-fresh-proposes-its-view : ¬ ((v : ℕ) → generator v (v ∷ []) [] ≡ freshRow v)
+unfolding freshRow rowOf
+generator-fresh-proposes-its-view p = differ (λ (g : Generator). g .own .len) (p 1) tt
 
-abbrev ofZero : List (List ℕ) → ℕ
-ofZero ns = length (getD ns 0 [])
+abbrev ofZero : Notes → ℕ
+ofZero n = getD (n .of) 0 (rowOf []) .len
 
-pub generator-noted-for-the-next : ¬ ((n : Notes) (from : ℕ) (q : Sequence) → set (notesOf n) (from + 1) (viewsOf q) ≡ set (notesOf n) from (viewsOf q))
-unfolding notesOf viewsOf rowOf
-generator-noted-for-the-next p = differ ofZero (p notes 0 (rowOf (3 ∷ []))) tt
+pub generator-noted-for-the-next : ¬ ((n : Notes) (from : ℕ) (q : Sequence) → notedRow n (from + 1) q ≡ notedRow n from q)
+unfolding notedRow rowOf
+generator-noted-for-the-next p = differ ofZero (p noNotes 0 (rowOf (3 ∷ []))) tt
 
-pub generator-noted-not-at-all : ¬ ((n : Notes) (from : ℕ) (q : Sequence) → notesOf n ≡ set (notesOf n) from (viewsOf q))
-unfolding notesOf viewsOf rowOf
-generator-noted-not-at-all p = differ ofZero (p notes 0 (rowOf (3 ∷ []))) tt
+pub generator-noted-not-at-all : ¬ ((n : Notes) (from : ℕ) (q : Sequence) → n ≡ notedRow n from q)
+unfolding notedRow rowOf
+generator-noted-not-at-all p = differ ofZero (p noNotes 0 (rowOf (3 ∷ []))) tt
 
 pub generator-agreeing-how-many : ¬ ((n : Notes) (q : Sequence) → ones (generators.agreeing (notesOf n) (viewsOf q)) ≡ generators.agreeing (notesOf n) (viewsOf q))
 unfolding notesOf viewsOf rowOf sameOf generators.agreeing ones onesIn
@@ -275,7 +273,7 @@ generator-proposal-heard-without-settling p = differ (λ (t : Turned). length (t
 
 pub generator-proposal-heard-without-a-note : ¬ ((g : Generator) (from : ℕ) (q : Sequence) → turned (heardInRow (generatorOf g) 8 (viewsOf q)) ≡ turned (heardInRow (generatorOf g) from (viewsOf q)))
 unfolding generatorOf notesOf viewsOf rowOf some insideOf clashOf plusOf unionOf heardOf sameOf ones onesIn reachesOf generators.withOwn generators.agreeing generators.hears generators.settles mergedInRow hearsInRow heardInRow turned
-generator-proposal-heard-without-a-note p = differ (λ (t : Turned). ofZero (t .next .proposals)) (p (generator 1 [] []) 0 (rowOf (3 ∷ []))) tt
+generator-proposal-heard-without-a-note p = differ (λ (t : Turned). length (getD (t .next .proposals) 0 [])) (p (generator 1 [] []) 0 (rowOf (3 ∷ []))) tt
 
 pub generator-converged-heard-without-raising : ¬ ((g : Generator) (from : ℕ) (q : Sequence) → turned (record { next = generators.notesConverged (generatorOf g) from (viewsOf q); sendings = [] }) ≡ turned (generators.convergedHeard (generatorOf g) from (viewsOf q)))
 unfolding generatorOf notesOf viewsOf rowOf sameOf ones onesIn reachesOf generators.agreeing generators.notesConverged generators.raises generators.convergedHeard turned

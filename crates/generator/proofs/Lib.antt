@@ -1,2 +1,3 @@
 pub mod Notes
 pub mod Whole
+pub mod Rows

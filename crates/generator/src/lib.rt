@@ -1,12 +1,12 @@
 // The rules at one generator: Propose, Proposal, Converged. Document 01, "Delivery at a relay".
 ghost use mathlib.Core.Path.{_≡_};
 ghost use mathlib.Core.List.{[], _∷_};
-ghost use lib.ListN.{set};
 ghost use Rattle.views.specs.Row.{viewsOf};
 ghost use Rattle.rules.specs.Generators as rules;
 ghost use Rattle.state.specs.Meaning.{notesOf, generatorOf, sendingOf};
 ghost use Rattle.state.specs.Plans.{turnOf, turned};
 ghost use Rattle.generator.specs.Heard.{turn, mergedInRow, heardInRow};
+ghost use Rattle.generator.specs.Rows.{freshRow, notedRow};
 use state::Generator;
 use state::Notes;
 use state::Sending;
@@ -14,7 +14,7 @@ use state::Turn;
 use views::Sequence;
 
 pub fn fresh(v: u16) -> Generator
-    ensures { λ r. ⌜ generatorOf r ≡ rules.fresh v ⌝ }
+    ensures { λ r. ⌜ r ≡ freshRow v ⌝ }
 {
     let none = views::empty();
     let notes = Notes { of: [none; 8] };
@@ -30,7 +30,7 @@ pub fn fresh(v: u16) -> Generator
 
 // There is no note of a sender above 7.
 pub fn noted(n: Notes, from: u8, q: Sequence) -> Notes
-    ensures { λ r. ⌜ notesOf r ≡ set (notesOf n) from (viewsOf q) ⌝ }
+    ensures { λ r. ⌜ r ≡ notedRow n from q ⌝ }
 {
     if 8 <= from {
         return n;
