@@ -8,17 +8,8 @@ use lib.ListN.{length, length-map}
 use borrow.Author.Tests.{eq-eqb}
 use Rattle.rules.specs.declared.Step.{Step}
 use Rattle.rules.specs.Sheets.{written}
-use Rattle.sheet.specs.Writing.{listed, unequal, ruled}
+use Rattle.sheet.specs.Writing.{listed, kindsOf, idsOf, valuesOf, unequal, ruled}
 use Rattle.sheet.proofs.Writing.{same-lengths}
-
-abbrev pub kindsOf : List Step → List ℕ
-kindsOf ks = map (λ (k : Step). k .kind) ks
-
-abbrev pub idsOf : List Step → List ℕ
-idsOf ks = map (λ (k : Step). k .id) ks
-
-abbrev pub valuesOf : List Step → List ℕ
-valuesOf ks = map (λ (k : Step). k .value) ks
 
 -- ---- three slices, listed, are those of the list
 

@@ -1,6 +1,6 @@
 -- What writing a sheet answers and leaves in the buffer, by the rules of crate `rules`, Sheets. Assumes nothing.
 use mathlib.Core.Bool.{Bool, not}
-use mathlib.Core.List.{List, [], _∷_}
+use mathlib.Core.List.{List, [], _∷_, map}
 use Prim.Native.Nat.{ℕ}
 use lib.Dec.{eqb}
 use lib.ListN.{length}
@@ -16,6 +16,16 @@ listed [] is vs = []
 listed (k ∷ ks) [] vs = []
 listed (k ∷ ks) (i ∷ is) [] = []
 listed (k ∷ ks) (i ∷ is) (v ∷ vs) = record { kind = k; id = i; value = v } ∷ listed ks is vs
+
+-- and the three of a list
+abbrev pub kindsOf : List Step → List ℕ
+kindsOf ks = map (λ (k : Step). k .kind) ks
+
+abbrev pub idsOf : List Step → List ℕ
+idsOf ks = map (λ (k : Step). k .id) ks
+
+abbrev pub valuesOf : List Step → List ℕ
+valuesOf ks = map (λ (k : Step). k .value) ks
 
 abbrev pub unequal : List ℕ → List ℕ → List ℕ → Bool
 unequal kinds ids values = not (eqb (length ids) (length kinds)) || not (eqb (length values) (length kinds))
