@@ -9,6 +9,9 @@ use second::refusal::Answer;
 use second::step::{step, Report, Step};
 use second::world::World;
 
+/// What told's bytes are before a step, and stay where it is refused.
+pub const UNTOLD: u8 = 0xee;
+
 pub struct Both {
     pub world: World,
     lent: Lent,
@@ -68,7 +71,7 @@ impl Both {
     }
 
     pub fn good(&self) -> Result<(), String> {
-        same("good", engine::good(self.lent.bytes()), 1)
+        same("good", engine::good(self.lent.bytes()), 0)
     }
 
     pub fn step(&mut self, asked: Step, tally: &mut Tally) -> Result<Report, String> {
@@ -78,16 +81,18 @@ impl Both {
 
     fn compared(&mut self, asked: Step, tally: &mut Tally) -> Result<Report, String> {
         self.before.copy_from_slice(self.lent.bytes());
-        self.told.bytes_mut().fill(0xee);
+        self.told.bytes_mut().fill(UNTOLD);
         let answer = engine::step(self.lent.bytes_mut(), asked, self.told.bytes_mut());
         let report = step(&mut self.world, asked);
         tally.count(&report);
         same("answer", answer, report.answer.number())?;
-        same("told", self.told.bytes(), &told(report.event)[..])?;
-        self.told.margins()?;
-        if report.answer != Answer::Done {
+        if report.answer == Answer::Done {
+            same("told", self.told.bytes(), &told(report.event)[..])?;
+        } else {
+            same("told", self.told.bytes(), &[UNTOLD; TOLD][..])?;
             same_world(self.lent.bytes(), &self.before, "the refused step found")?;
         }
+        self.told.margins()?;
         self.compare()?;
         Ok(report)
     }

@@ -1,7 +1,7 @@
 //! Damaged worlds: the second program reads the bytes, and the engine must give the
 //! same verdict; a world that is not good stays as it is, one that still is goes on.
 
-use crate::both::Both;
+use crate::both::{Both, UNTOLD};
 use crate::damage::{classes, Class};
 use crate::engine::{self, TOLD};
 use crate::lent::{same, same_world, Lent};
@@ -87,7 +87,7 @@ fn one(
     if class.surely_bad && world.is_some() {
         return Err("the second program takes it for good".to_string());
     }
-    same("good", engine::good(&bytes), u8::from(world.is_some()))?;
+    same("good", engine::good(&bytes), u8::from(world.is_none()))?;
     match world {
         Some(world) => goes_on(world, random, tally),
         None => stays(&bytes, random, &worlds[0], tally),
@@ -107,11 +107,11 @@ fn goes_on(world: World, random: &mut Random, tally: &mut Tally) -> Result<(), S
 fn stays(bytes: &[u8], random: &mut Random, near: &World, tally: &mut Tally) -> Result<(), String> {
     let asked = any_step(random, near);
     let mut lent = Lent::of(bytes);
-    let mut told = Lent::filled(TOLD, 0xee);
+    let mut told = Lent::filled(TOLD, UNTOLD);
     let answer = engine::step(lent.bytes_mut(), asked, told.bytes_mut());
     tally.answered(1);
     same("answer", answer, 1)?;
-    same("told", told.bytes(), &[0; TOLD][..])?;
+    same("told", told.bytes(), &[UNTOLD; TOLD][..])?;
     same_world(lent.bytes(), bytes, "the refused step found")?;
     told.margins()?;
     lent.margins()

@@ -1,12 +1,12 @@
 //! Starts, wrong lengths, and rooms for the told columns that are not nine bytes.
 
-use crate::both::Both;
+use crate::both::{Both, UNTOLD};
 use crate::engine::{self, TOLD};
 use crate::lent::{same, same_world, Lent};
 use crate::tally::Tally;
 use second::hand::start;
 use second::image::{encode, SIZE};
-use second::step::{Step, CRASH, READ};
+use second::step::{Step, CRASH, DELIVER, READ};
 
 const LENGTHS: &[usize] = &[
     0, 1, 2, 8, 9, 63, 64, 5_440, 43_520, 43_776, 64_256, 65_534, 65_535, 65_537, 65_600, 70_000,
@@ -45,41 +45,55 @@ fn wrong_length(length: usize) -> Result<(), String> {
     let mut before = encode(&start(3));
     before.resize(length, 0);
     let mut lent = Lent::of(&before);
-    same("good", engine::good(lent.bytes()), 0)?;
+    same("good", engine::good(lent.bytes()), 1)?;
     for mask in [0, 1, 255] {
         same("start's answer", engine::start(lent.bytes_mut(), mask), 1)?;
         same_world(lent.bytes(), &before, "the refused start found")?;
     }
     for asked in [Step::new(READ, 0), Step::new(CRASH, 3), Step::new(0, 0)] {
-        let mut told = Lent::filled(TOLD, 0xee);
+        let mut told = Lent::filled(TOLD, UNTOLD);
         let answer = engine::step(lent.bytes_mut(), asked, told.bytes_mut());
         same("step's answer", answer, 1)?;
-        same("told", told.bytes(), &[0; TOLD][..])?;
+        same("told", told.bytes(), &[UNTOLD; TOLD][..])?;
         same_world(lent.bytes(), &before, "the refused step found")?;
         told.margins()?;
     }
     lent.margins()
 }
 
-/// Room for fewer than nine bytes is left as it is, of more the first nine are
-/// written; the step is the same either way.
+/// Room for fewer than nine bytes is NO ROOM, whatever the step and the world; of more
+/// the first nine are written.
 fn told(length: usize) -> Result<(), String> {
-    let asked = Step::new(CRASH, 3);
-    let mut lent = Lent::of(&encode(&start(3)));
-    let mut told = Lent::filled(length, 0xee);
-    same(
-        "answer",
-        engine::step(lent.bytes_mut(), asked, told.bytes_mut()),
-        0,
-    )?;
-    let mut expected = vec![0xee; length];
-    if let Some(first) = expected.get_mut(..TOLD) {
-        first.fill(0);
+    let image = encode(&start(3));
+    for (before, asked, otherwise) in [
+        (&image, Step::new(CRASH, 3), 0),
+        (&image, Step::new(DELIVER, 0), 3),
+        (&image, Step::new(0, 0), 2),
+        (&vec![0x5a; SIZE], Step::new(CRASH, 3), 1),
+        (&vec![], Step::new(CRASH, 3), 1),
+    ] {
+        let mut lent = Lent::of(before);
+        let mut told = Lent::filled(length, UNTOLD);
+        let answer = engine::step(lent.bytes_mut(), asked, told.bytes_mut());
+        let expected = if length < TOLD { 8 } else { otherwise };
+        same("answer", answer, expected)?;
+        if expected == 0 {
+            crashed(lent.bytes(), told.bytes())?;
+        } else {
+            same("told", told.bytes(), &vec![UNTOLD; length][..])?;
+            same_world(lent.bytes(), before, "the refused step found")?;
+        }
+        told.margins()?;
+        lent.margins()?;
     }
-    same("told", told.bytes(), &expected[..])?;
-    told.margins()?;
-    let mut crashed = start(3);
-    crashed.relays[3].alive = false;
-    same_world(lent.bytes(), &encode(&crashed), "the second program")?;
-    lent.margins()
+    Ok(())
+}
+
+fn crashed(bytes: &[u8], told: &[u8]) -> Result<(), String> {
+    let mut expected = vec![UNTOLD; told.len()];
+    expected[..TOLD].fill(0);
+    same("told", told, &expected[..])?;
+    let mut world = start(3);
+    world.relays[3].alive = false;
+    same_world(bytes, &encode(&world), "the second program")
 }

@@ -1,4 +1,4 @@
-//! The engine called through its three C functions, next to the second program:
+//! The engine called through its six C functions, next to the second program:
 //! the same steps on the same worlds, and every byte compared.
 
 pub mod both;
@@ -9,6 +9,7 @@ pub mod edges;
 pub mod engine;
 pub mod lent;
 pub mod made;
+pub mod rehearsed;
 pub mod sheets;
 #[cfg(feature = "stub")]
 pub mod stub;

@@ -51,6 +51,28 @@ extern "C" {
         told: *mut u8,
         told_len: usize,
     ) -> u8;
+    fn sheet_check(sheet: *const u8, len: usize) -> u8;
+    fn sheet_write(
+        buf: *mut u8,
+        len: usize,
+        mask: u8,
+        kinds: *const u8,
+        kinds_len: usize,
+        ids: *const u8,
+        ids_len: usize,
+        values: *const u32,
+        values_len: usize,
+    ) -> u8;
+    fn sheet_rehearse(
+        sheet: *const u8,
+        len: usize,
+        world: *mut u8,
+        world_len: usize,
+        out: *mut u8,
+        out_len: usize,
+        told: *mut u8,
+        told_len: usize,
+    ) -> u8;
 }
 
 pub fn good(world: &[u8]) -> u8 {
@@ -74,6 +96,45 @@ pub fn step(world: &mut [u8], asked: Step, told: &mut [u8]) -> u8 {
             kind,
             id,
             value,
+            told.as_mut_ptr(),
+            told.len(),
+        )
+    }
+}
+
+pub fn check(sheet: &[u8]) -> u8 {
+    // SAFETY: pointer and length are of one slice, which the engine only reads.
+    unsafe { sheet_check(sheet.as_ptr(), sheet.len()) }
+}
+
+pub fn write(buffer: &mut [u8], mask: u8, kinds: &[u8], ids: &[u8], values: &[u32]) -> u8 {
+    // SAFETY: each pointer and length are of one slice, and the one that is written is
+    // lent to this call alone.
+    unsafe {
+        sheet_write(
+            buffer.as_mut_ptr(),
+            buffer.len(),
+            mask,
+            kinds.as_ptr(),
+            kinds.len(),
+            ids.as_ptr(),
+            ids.len(),
+            values.as_ptr(),
+            values.len(),
+        )
+    }
+}
+
+pub fn rehearse(sheet: &[u8], world: &mut [u8], out: &mut [u8], told: &mut [u8]) -> u8 {
+    // SAFETY: as above.
+    unsafe {
+        sheet_rehearse(
+            sheet.as_ptr(),
+            sheet.len(),
+            world.as_mut_ptr(),
+            world.len(),
+            out.as_mut_ptr(),
+            out.len(),
             told.as_mut_ptr(),
             told.len(),
         )

@@ -1,11 +1,14 @@
-//! The engine's three functions made from the second program, so that the harness
+//! The engine's six functions made from the second program, so that the harness
 //! can be tried without the archive; and faults that the harness must find.
 
 use crate::both;
-use crate::engine::TOLD;
+use crate::engine::{LENGTH, TOLD};
+use crate::rehearsed::last_world;
 use second::good::good_world;
 use second::image::{decode, encode, SIZE, TAIL_AT};
+use second::record::rehearse;
 use second::refusal::Answer;
+use second::sheet::{bytes_unchecked, read, write, Sheet};
 use second::step::{step, Step};
 use second::world::World;
 use std::cell::Cell;
@@ -42,8 +45,18 @@ faults! {
     NoRoomEarly "no-room-early"
     EventTwice "event-twice"
     ToldLowByteFirst "told-low-byte-first"
-    ToldKeptOnRefusal "told-kept-on-refusal"
+    RefusalTells "refusal-tells"
     ShortToldWritten "short-told-written"
+    EventLost "event-lost"
+    GoodIsOne "good-is-one"
+    AnySheet "any-sheet"
+    ShortestCounts "shortest-counts"
+    SheetCut "sheet-cut"
+    SheetClears "sheet-clears"
+    RecordUnended "record-unended"
+    LengthLowByteFirst "length-low-byte-first"
+    RehearsalUntold "rehearsal-untold"
+    WorldNotLeft "world-not-left"
     GeneratorsByView "generators-by-view"
     NotesForgotten "notes-forgotten"
     ValueCut "value-cut"
@@ -94,7 +107,7 @@ pub unsafe extern "C" fn world_good(w: *const u8, len: usize) -> u8 {
     if has(Fault::GoodByOwnWord) {
         return 255;
     }
-    u8::from(checked(bytes).is_some())
+    u8::from(checked(bytes).is_some() == has(Fault::GoodIsOne))
 }
 
 /// # Safety
@@ -132,14 +145,124 @@ pub unsafe extern "C" fn world_step(
 ) -> u8 {
     let bytes = std::slice::from_raw_parts_mut(w, len);
     let told = std::slice::from_raw_parts_mut(told, told_len);
+    if told.len() < TOLD && !has(Fault::EventLost) {
+        if has(Fault::ShortToldWritten) {
+            told.fill(0);
+        }
+        return Answer::NoRoom.number();
+    }
     let (answer, event) = stepped(bytes, Step { kind, id, value });
-    let kept = has(Fault::ToldKeptOnRefusal) && answer != Answer::Done;
-    if let Some(first) = told.get_mut(..TOLD).filter(|_| !kept) {
+    let tells = answer == Answer::Done || has(Fault::RefusalTells);
+    if let Some(first) = told.get_mut(..TOLD).filter(|_| tells) {
         first.copy_from_slice(&event);
-    } else if has(Fault::ShortToldWritten) {
-        told.fill(0);
     }
     answer.number()
+}
+
+/// # Safety
+/// Pointer and length are of one slice.
+#[no_mangle]
+pub unsafe extern "C" fn sheet_check(sheet: *const u8, len: usize) -> u8 {
+    let bytes = std::slice::from_raw_parts(sheet, len);
+    if has(Fault::AnySheet) {
+        return Answer::Done.number();
+    }
+    read(bytes).map_or_else(Answer::number, |_| 0)
+}
+
+/// # Safety
+/// Each pointer and length are of one slice, the first's lent to this call alone.
+#[no_mangle]
+#[allow(clippy::too_many_arguments)]
+pub unsafe extern "C" fn sheet_write(
+    buf: *mut u8,
+    len: usize,
+    mask: u8,
+    kinds: *const u8,
+    kinds_len: usize,
+    ids: *const u8,
+    ids_len: usize,
+    values: *const u32,
+    values_len: usize,
+) -> u8 {
+    let buffer = std::slice::from_raw_parts_mut(buf, len);
+    let kinds = std::slice::from_raw_parts(kinds, kinds_len);
+    let ids = std::slice::from_raw_parts(ids, ids_len);
+    let values = std::slice::from_raw_parts(values, values_len);
+    let equal = kinds_len == ids_len && ids_len == values_len;
+    if !equal && !has(Fault::ShortestCounts) {
+        return Answer::BadSheet.number();
+    }
+    let parts = kinds.iter().zip(ids).zip(values);
+    let steps = parts.map(|((&kind, &id), &value)| Step { kind, id, value });
+    let sheet = Sheet {
+        mask,
+        steps: steps.collect(),
+    };
+    if has(Fault::SheetCut) {
+        let bytes = bytes_unchecked(&sheet);
+        let fits = bytes.len().min(buffer.len());
+        buffer[..fits].copy_from_slice(&bytes[..fits]);
+    }
+    if has(Fault::SheetClears) {
+        buffer.fill(0);
+    }
+    write(&sheet, buffer).map_or_else(Answer::number, |_| 0)
+}
+
+/// # Safety
+/// Each pointer and length are of one slice, lent to this call alone.
+#[no_mangle]
+#[allow(clippy::too_many_arguments)]
+pub unsafe extern "C" fn sheet_rehearse(
+    sheet: *const u8,
+    len: usize,
+    world: *mut u8,
+    world_len: usize,
+    out: *mut u8,
+    out_len: usize,
+    told: *mut u8,
+    told_len: usize,
+) -> u8 {
+    let bytes = std::slice::from_raw_parts(sheet, len);
+    let world = std::slice::from_raw_parts_mut(world, world_len);
+    let out = std::slice::from_raw_parts_mut(out, out_len);
+    let told = std::slice::from_raw_parts_mut(told, told_len);
+    if told.len() < LENGTH && !has(Fault::RehearsalUntold) {
+        return Answer::NoRoom.number();
+    }
+    rehearsed_in(bytes, world, out, told).number()
+}
+
+fn rehearsed_in(bytes: &[u8], world: &mut [u8], out: &mut [u8], told: &mut [u8]) -> Answer {
+    if world.len() != SIZE {
+        return Answer::BadWorld;
+    }
+    let (mut record, _) = rehearse(bytes);
+    let Ok(sheet) = read(bytes) else {
+        if let Some(front) = out.get_mut(..record.len()) {
+            front.copy_from_slice(record.as_bytes());
+        }
+        return Answer::BadSheet;
+    };
+    if out.len() < record.len() {
+        return Answer::NoRoom;
+    }
+    let mut length = (record.len() as u32).to_be_bytes();
+    if has(Fault::LengthLowByteFirst) {
+        length.reverse();
+    }
+    if has(Fault::RecordUnended) {
+        record.truncate(record.find("end").expect("a record's last line"));
+    }
+    out[..record.len()].copy_from_slice(record.as_bytes());
+    if !has(Fault::WorldNotLeft) {
+        world.copy_from_slice(&last_world(&sheet));
+    }
+    if let Some(front) = told.get_mut(..LENGTH) {
+        front.copy_from_slice(&length);
+    }
+    Answer::Done
 }
 
 fn stepped(bytes: &mut [u8], asked: Step) -> (Answer, [u8; TOLD]) {

@@ -13,7 +13,7 @@ fn failures(fault: Option<Fault>) -> (usize, usize) {
     let mut tally = Tally::quiet();
     edges::all(&mut tally);
     by_hand::all(&mut tally);
-    for flavour in ["conflict", "desks", "clogged", "generators"] {
+    for flavour in ["conflict", "desks", "clogged", "generators", "damaged"] {
         sheets::one(flavour, 1, &mut tally);
     }
     made::all(60, &mut tally);

@@ -2,9 +2,10 @@
 //! steps of generated sheets. Not in the gate.
 
 use beside::engine::{self, TOLD};
+use beside::rehearsed::RECORD;
 use second::generate;
 use second::image::SIZE;
-use second::sheet::read;
+use second::sheet::{read, Sheet};
 use std::hint::black_box;
 
 fn main() {
@@ -12,31 +13,51 @@ fn main() {
         .nth(1)
         .and_then(|word| word.parse().ok())
         .unwrap_or(3);
-    let mut world = vec![0; SIZE];
-    let mut told = [0; TOLD];
-    let mut deepest = [0; 3];
+    let mut deepest = [0; 6];
     for flavour in generate::names() {
         for seed in 1..=seeds {
             let bytes = generate::sheet(flavour, seed, Some(400)).expect("a listed flavour");
             let Ok(sheet) = read(&bytes) else { continue };
-            let depth = engine::stack(|| {
-                black_box(engine::start(&mut world, sheet.mask));
-            });
-            deepest[0] = deepest[0].max(depth);
-            for &asked in &sheet.steps {
-                let depth = engine::stack(|| {
-                    black_box(engine::step(&mut world, asked, &mut told));
-                });
-                deepest[1] = deepest[1].max(depth);
+            for (most, depth) in deepest.iter_mut().zip(depths(&bytes, &sheet)) {
+                *most = depth.max(*most);
             }
-            let depth = engine::stack(|| {
-                black_box(engine::good(&world));
-            });
-            deepest[2] = deepest[2].max(depth);
         }
     }
+    let [start, step, good, check, write, rehearse] = deepest;
     println!(
-        "start {} bytes, step {} bytes, good {} bytes",
-        deepest[0], deepest[1], deepest[2]
+        "start {start} bytes, step {step}, good {good}, check {check}, write {write}, rehearse {rehearse}"
     );
+}
+
+/// Of a start, the deepest step, a check of the last world; of a sheet's check, its
+/// writing and its rehearsal.
+fn depths(bytes: &[u8], sheet: &Sheet) -> [usize; 6] {
+    let mut world = vec![0; SIZE];
+    let mut told = [0; TOLD];
+    let mut record = vec![0; RECORD];
+    let start = engine::stack(|| {
+        black_box(engine::start(&mut world, sheet.mask));
+    });
+    let steps = sheet.steps.iter().map(|&asked| {
+        engine::stack(|| {
+            black_box(engine::step(&mut world, asked, &mut told));
+        })
+    });
+    let step = steps.max().unwrap_or(0);
+    let good = engine::stack(|| {
+        black_box(engine::good(&world));
+    });
+    let check = engine::stack(|| {
+        black_box(engine::check(bytes));
+    });
+    let (kinds, ids): (Vec<u8>, Vec<u8>) = sheet.steps.iter().map(|k| (k.kind, k.id)).unzip();
+    let values: Vec<u32> = sheet.steps.iter().map(|k| k.value).collect();
+    let write = engine::stack(|| {
+        let room = &mut record[..bytes.len()];
+        black_box(engine::write(room, sheet.mask, &kinds, &ids, &values));
+    });
+    let rehearse = engine::stack(|| {
+        black_box(engine::rehearse(bytes, &mut world, &mut record, &mut told));
+    });
+    [start, step, good, check, write, rehearse]
 }
