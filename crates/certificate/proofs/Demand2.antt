@@ -7,7 +7,8 @@ use Prim.Native.Nat.{ℕ, suc, _+_, _≤_, _<_}
 use native.Mathlib.Omega.{arith}
 use lib.Dec.{lit<, lit≤}
 use lib.ListN.{length, getD, drop, replicate, length-replicate}
-use lib.Seq.{take-all, drop-append-seam}
+use lib.Seq.{drop-append-seam}
+use borrow.Author.Tests.{le-ltb}
 use Rattle.rows.specs.Bytes.{numberAt}
 use Rattle.rules.specs.State.{free, World, start}
 use Rattle.rules.specs.Sending.{waitingIn}
@@ -17,21 +18,19 @@ use Rattle.rules.specs.Steps.{Outcome, refusal, done, after, report, stepped}
 use Rattle.rules.specs.Image.{placeRow, image, goodBytes}
 use Rattle.rules.specs.Lent.{Lent, left, lentStep}
 use Rattle.rules.specs.Sheets.{stepsIn, allZerosIn, sheet, sheetIn}
-use Rattle.rules.specs.Runs.{rehearsed, outcomes, lastWorld, sentBy, deliveredBy, droppedBy, sum, answer, fields, stepLines, printed, startOf, endOf}
+use Rattle.rules.specs.Runs.{longest, outcomes, lastWorld, sentBy, deliveredBy, droppedBy, sum, answer, fields, stepLines, printed, startOf, endOf}
 use Rattle.rules.specs.Examples.{recorded}
 use Rattle.rules.proofs.Kept.{good-facts, step-keeps, always-good}
 use Rattle.rules.proofs.Starts.{start-good}
-use Rattle.rules.proofs.Counts.{sent-is-sum}
+use Rattle.rules.proofs.Counts.{places-all, run-few, sent-is-sum}
 use Rattle.rules.proofs.ImageWidths.{length-image}
 use Rattle.rules.proofs.ImageWorld.{image-good, image-injective}
 use Rattle.record.specs.Lines.{laid}
-use Rattle.record.proofs.Laying.{laid-front}
+use Rattle.record.proofs.Laying.{laid-whole}
 use Rattle.record.proofs.Whole.{printed-is}
 use Rattle.world.specs.Answer.{lentOf, columns}
 use Rattle.world.specs.declared.Answer.{Answer}
-use Rattle.world.specs.Playing.{recordLeft}
-use Rattle.world.proofs.Moves.{few-delivered, few-dropped}
-use Rattle.world.proofs.Playing.{places-all}
+use Rattle.world.specs.Playing.{ruled as ruling, laidBy, recordLeft}
 use Rattle.certificate.proofs.Differ.{differ, entry}
 use Rattle.certificate.proofs.EndLine.{Small, end-read}
 use Rattle.certificate.proofs.Worlds.{one, one-formed, one-good, write, deliver, step-of}
@@ -208,11 +207,11 @@ show-in-a-run f promised idle e =
 
 -- ---- "Invented totals are ruled out by the tie to the steps taken."
 
--- what `world::run::rehearse` promises to leave in a buffer that the record fits into is that record, and the bytes past it as they were
-pub record-promised : (b world out : List ℕ) (mask : ℕ) (ks : List Step) → length world ≡ 65536 → sheetIn b ≡ sheet mask ks → length (printed mask ks) ≤ length out
+-- what `world::run::rehearse` promises to leave in a buffer with room is the record, and the bytes past it as they were
+pub record-promised : (b world out : List ℕ) (mask : ℕ) (ks : List Step) → length world ≡ 65536 → sheetIn b ≡ sheet mask ks → longest (length ks) ≤ length out
     → recordLeft b world out ≡ printed mask ks ++ drop (length (printed mask ks)) out
-unfolding recordLeft rehearsed
-record-promised b world out mask ks long e fits = rw (long, e) (laid-front out (printed mask ks) ∙ ap (λ (l : List ℕ). l ++ drop (length (printed mask ks)) out) (take-all (length out) (printed mask ks) fits))
+unfolding recordLeft ruling laidBy
+record-promised b world out mask ks long e fits = rw (long, e, le-ltb (length out) (longest (length ks)) fits)
 
 -- the totals of the promised record are sums over the steps taken, and what waits in the last world
 pub totals : (mask : ℕ) (ks : List Step) → let os = outcomes (start mask) ks in let waiting = waitingIn (lastWorld (start mask) ks .places) in
@@ -240,10 +239,9 @@ module _ (mask : ℕ) (ks : List Step) (some : 0 < mask) (byte : mask < 256) (fe
 
   counted-small : Small (sum sentBy os) (sum deliveredBy os) (sum droppedBy os) waits
   counted-small =
-      let d = few-delivered (start mask) ks in
-      let x = few-dropped (start mask) ks in
       let w : waits ≤ 256 = omega (arith, places-all (lastWorld (start mask) ks .places), good-facts (lastWorld (start mask) ks) (always-good mask some byte ks) .many) in
-      record { first = omega (arith, sent-is-sum mask ks, d, x, w); second = omega (arith, d); third = omega (arith, x); fourth = omega (arith, w) }
+      let few = run-few (start mask) ks in
+      record { first = omega (arith, sent-is-sum mask ks, few, w); second = omega (arith, few); third = omega (arith, few); fourth = omega (arith, w) }
 
   -- a record of these steps that is the promised one has the counted totals, whatever bytes stand after it
   pub totals-tied : (sent delivered dropped waiting : ℕ) (t u : List ℕ) → Small sent delivered dropped waiting
@@ -258,8 +256,8 @@ module _ (mask : ℕ) (ks : List Step) (some : 0 < mask) (byte : mask < 256) (fe
       end-read sent delivered dropped waiting (sum sentBy os) (sum deliveredBy os) (sum droppedBy os) waits t u small counted-small
       (after-all lines (invented ++ t) (counted ++ u) (after-all (startOf mask) (lines ++ (invented ++ t)) (lines ++ (counted ++ u)) same))
 
-  -- the same of what `world::run::rehearse` promises to leave in a buffer that the record fits into
-  pub rehearse-tied : (b world out : List ℕ) → length world ≡ 65536 → sheetIn b ≡ sheet mask ks → length (printed mask ks) ≤ length out
+  -- the same of what `world::run::rehearse` promises to leave in a buffer with room
+  pub rehearse-tied : (b world out : List ℕ) → length world ≡ 65536 → sheetIn b ≡ sheet mask ks → longest (length ks) ≤ length out
       → (sent delivered dropped waiting : ℕ) (t : List ℕ) → Small sent delivered dropped waiting
       → withTotals mask ks sent delivered dropped waiting ++ t ≡ recordLeft b world out
       → (sent ≡ sum sentBy os) × (delivered ≡ sum deliveredBy os) × (dropped ≡ sum droppedBy os) × (waiting ≡ waits)
@@ -275,20 +273,25 @@ invented-totals sent delivered dropped waiting p =
     differ (entry 4) (sym none ∙ some) tt
 
 -- the same of `world::run::rehearse`: a program that lays the record of every sheet with these four totals does not keep its promise, though it may do as it likes
--- with a world of another length
+-- with a world of another length and without room
 module _ (sent delivered dropped waiting : ℕ) (small : Small sent delivered dropped waiting) where
   laid-counted : (b : List ℕ) (ks : List Step) → sheetIn b ≡ sheet 1 ks → length ks ≤ 8000
-      → ((out : List ℕ) → laid out 0 (withTotals 1 ks sent delivered dropped waiting) ≡ recordLeft b one out) → sent ≡ sum sentBy (outcomes (start 1) ks)
+      → ((out : List ℕ) → longest (length ks) ≤ length out → laid out 0 (withTotals 1 ks sent delivered dropped waiting) ≡ recordLeft b one out)
+      → sent ≡ sum sentBy (outcomes (start 1) ks)
   laid-counted b ks is few p =
       let made : List ℕ = withTotals 1 ks sent delivered dropped waiting in
-      let out : List ℕ = replicate (length made + length (printed 1 ks)) 0 in
-      let long : length out ≡ length made + length (printed 1 ks) = length-replicate (length made + length (printed 1 ks)) 0 in
-      let whole : laid out 0 made ≡ made ++ drop (length made) out = laid-front out made ∙ ap (λ (l : List ℕ). l ++ drop (length made) out) (take-all (length out) made (omega (arith, long))) in
-      rehearse-tied 1 ks (omega arith) (omega arith) few b one out (length-image (start 1)) is (omega (arith, long)) sent delivered dropped waiting (drop (length made) out) small (sym whole ∙ p out) .0
+      let out : List ℕ = replicate (length made + longest (length ks)) 0 in
+      let long : length out ≡ length made + longest (length ks) = length-replicate (length made + longest (length ks)) 0 in
+      let room : longest (length ks) ≤ length out = omega (arith, long) in
+      let whole : laid out 0 made ≡ made ++ drop (length made) out = laid-whole out made (omega (arith, long)) in
+      rehearse-tied 1 ks (omega arith) (omega arith) few b one out (length-image (start 1)) is room sent delivered dropped waiting
+      (drop (length made) out) small (sym whole ∙ p out room) .0
 
-  pub rehearse-invented : ¬ ((b world out : List ℕ) (mask : ℕ) (ks : List Step) → length world ≡ 65536 → sheetIn b ≡ sheet mask ks → laid out 0 (withTotals mask ks sent delivered dropped waiting) ≡ recordLeft b world out)
+  pub rehearse-invented : ¬ ((b world out : List ℕ) (mask : ℕ) (ks : List Step) → length world ≡ 65536 → sheetIn b ≡ sheet mask ks
+      → longest (length ks) ≤ length out → laid out 0 (withTotals mask ks sent delivered dropped waiting) ≡ recordLeft b world out)
   unfolding recorded sheetIn stepsIn allZerosIn numberAt
   rehearse-invented p =
-      let none : sent ≡ 0 = laid-counted blank [] refl (omega arith) (λ out. p blank one out 1 [] (length-image (start 1)) refl) in
-      let some : sent ≡ 1 = laid-counted written (write ∷ []) refl (omega arith) (λ out. p written one out 1 (write ∷ []) (length-image (start 1)) refl) in
+      let none : sent ≡ 0 = laid-counted blank [] refl (omega arith) (λ out room. p blank one out 1 [] (length-image (start 1)) refl room) in
+      let some : sent ≡ 1 =
+      laid-counted written (write ∷ []) refl (omega arith) (λ out room. p written one out 1 (write ∷ []) (length-image (start 1)) refl room) in
       omega (arith, none, some)

@@ -509,8 +509,8 @@ world-columns-of a r s e f = columns-back r s (e ∙ sym f)
 pub world-rehearse-answer : (sheet world out : List ℕ) → Determined (λ r. r ≡ rehearseAnswer sheet world out)
 world-rehearse-answer sheet world out = by-equation (rehearseAnswer sheet world out)
 
-pub world-rehearse-last : (sheet world : List ℕ) → Determined (λ b. b ≡ worldLeft sheet world)
-world-rehearse-last sheet world = by-equation (worldLeft sheet world)
+pub world-rehearse-last : (sheet world out : List ℕ) → Determined (λ b. b ≡ worldLeft sheet world out)
+world-rehearse-last sheet world out = by-equation (worldLeft sheet world out)
 
 pub world-rehearse-printed : (sheet world out : List ℕ) → Determined (λ b. b ≡ recordLeft sheet world out)
 world-rehearse-printed sheet world out = by-equation (recordLeft sheet world out)

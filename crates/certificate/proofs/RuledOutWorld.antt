@@ -1,9 +1,9 @@
 -- Wrong programs that the promises rule out: good, world and engine. Assumes nothing.
-use mathlib.Core.Path.{_≡_, refl, sym, ap, _∙_}
+use mathlib.Core.Path.{_≡_, sym, ap, _∙_}
 use mathlib.Core.Bool.{Bool, true, false, not, _&&_}
 use mathlib.Core.List.{List, [], _∷_, _++_}
 use Prim.Native.Nat.{ℕ}
-use lib.Dec.{eqb, ltb}
+use lib.Dec.{eqb, leb, ltb}
 use lib.ListN.{length, getD, drop, replicate}
 use Rattle.rows.specs.Bytes.{numberAt, splice, placed, bytesOf, be32, run, cat, zeros}
 use Rattle.rules.specs.Sets.{if_then_else_}
@@ -16,7 +16,7 @@ use Rattle.rules.specs.Image.{image, goodBytes}
 use Rattle.rules.specs.Lent.{Lent, left, lentStart, lentStep}
 use Rattle.rules.specs.Sheets as sheets
 use Rattle.rules.specs.Sheets.{mark, stepsOf, stepsIn, allZerosIn, badSheet, sheetIn}
-use Rattle.rules.specs.Runs.{outcomes, sentBy, deliveredBy, droppedBy, sum, fields, stepLines, lastWorld, rehearsed, startOf, endOf, badOf}
+use Rattle.rules.specs.Runs.{outcomes, sentBy, deliveredBy, droppedBy, sum, fields, digits, line, stepLines, lastWorld, longest, rehearsed, startOf, endOf, badOf}
 use Rattle.rules.specs.Examples.{recorded}
 use Rattle.rules.proofs.Kept.{step-keeps, run-keeps}
 use Rattle.rules.proofs.ImageWidths.{length-image}
@@ -24,7 +24,7 @@ use Rattle.rules.proofs.ImageWorld.{image-injective}
 use Rattle.sheet.specs.Writing.{listed, ruled, bufferOf}
 use Rattle.record.specs.Lines.{laid}
 use Rattle.world.specs.Answer.{reportOf, lentOf}
-use Rattle.world.specs.Playing.{fittedOf, rehearseAnswer, worldLeft, recordLeft}
+use Rattle.world.specs.Playing.{roomFor, ruled, answerBy, laidBy, worldBy, rehearseAnswer, worldLeft, recordLeft}
 use Rattle.world.specs.declared.Answer.{Answer}
 use Rattle.world.specs.declared.Report.the-variants.{Nothing, WriteDone}
 use Rattle.world.specs.declared.run.Rehearsed.{Rehearsed}
@@ -102,48 +102,110 @@ pub world-columns-of-desk-0-always : ¬ ((a : Answer) → fields (reportOf (a .r
 unfolding reportOf
 world-columns-of-desk-0-always p = differ (entry 1) (p wrote) tt
 
--- a sheet with mask 1 and no step; a page for a record
+-- a sheet with mask 1 and no step; a page that its record fills, one with room for the record of a step, and one of a byte
 abbrev pub blank : List ℕ
 blank = mark ++ (1 ∷ [])
 
 abbrev page : List ℕ
-page = replicate 20 0
+page = replicate 20 7
+
+abbrev wide : List ℕ
+wide = replicate 70 7
+
+abbrev narrow : List ℕ
+narrow = 7 ∷ []
 
 pub world-rehearse-answer-done-always : ¬ ((sheet world out : List ℕ) → record { answer = 0; length = length (rehearsed sheet) } ≡ rehearseAnswer sheet world out)
-unfolding rehearseAnswer
+unfolding rehearseAnswer ruled answerBy
 world-rehearse-answer-done-always p = differ (λ (r : Rehearsed). r .answer) (p blank [] page) tt
 
 -- with a world of the right length
-left-there : (sheet world : List ℕ) → length world ≡ 65536 → sheetIn sheet ≡ sheetIn blank → worldLeft sheet world ≡ one
-unfolding worldLeft sheetIn stepsIn allZerosIn lastWorld
-left-there sheet world e s = rw (e, s)
+module _ (world : List ℕ) (e : length world ≡ 65536) (sheet out : List ℕ) where
+  ruled-there : ruled sheet world out ≡ roomFor (length out) (sheetIn sheet)
+  unfolding ruled
+  ruled-there = rw e
 
-printed-there : (sheet out : List ℕ) → recordLeft sheet one out ≡ laid out 0 (rehearsed sheet)
-unfolding recordLeft
-printed-there sheet out = rw (length-image (start 1))
+  answered-there : rehearseAnswer sheet world out ≡ answerBy out (roomFor (length out) (sheetIn sheet))
+  unfolding rehearseAnswer
+  answered-there = ap (answerBy out) ruled-there
 
-answered-there : (sheet out : List ℕ) → rehearseAnswer sheet one out ≡ fittedOf (length out) (length (rehearsed sheet))
-unfolding rehearseAnswer
-answered-there sheet out = rw (length-image (start 1))
+  left-there : worldLeft sheet world out ≡ worldBy world (roomFor (length out) (sheetIn sheet))
+  unfolding worldLeft
+  left-there = ap (worldBy world) ruled-there
+
+  printed-there : recordLeft sheet world out ≡ laidBy out (roomFor (length out) (sheetIn sheet))
+  unfolding recordLeft
+  printed-there = ap (laidBy out) ruled-there
 
 -- a test of the world's length, where it is right
-long-right : {A : Type 0} (a b : A) → (if eqb (length one) 65536 && true then a else b) ≡ a
-long-right a b = rw (length-image (start 1))
+long-right : {A : Type 0} (world : List ℕ) → length world ≡ 65536 → (a b : A) → (if eqb (length world) 65536 && true then a else b) ≡ a
+long-right world e a b = rw e
 
-pub world-rehearse-answer-done-without-room : ¬ ((sheet world out : List ℕ) → (if eqb (length world) 65536 && ltb (length out) (length (rehearsed sheet)) then record { answer = 0; length = length (rehearsed sheet) } else rehearseAnswer sheet world out) ≡ rehearseAnswer sheet world out)
-unfolding fittedOf sheetIn stepsIn allZerosIn recorded rehearsed
-world-rehearse-answer-done-without-room p = differ (λ (r : Rehearsed). r .answer) (sym (long-right _ _) ∙ p blank one [] ∙ answered-there blank []) tt
+abbrev one-long : length one ≡ 65536
+one-long = length-image (start 1)
 
-pub world-rehearse-last-as-it-was : ¬ ((sheet world : List ℕ) → world ≡ worldLeft sheet world)
-world-rehearse-last-as-it-was p = starts-differ (p blank two ∙ left-there blank two (length-image (start 2)) refl)
+abbrev two-long : length two ≡ 65536
+two-long = length-image (start 2)
+
+pub world-rehearse-answer-done-without-room : ¬ ((sheet world out : List ℕ) →
+    (if eqb (length world) 65536 && ltb (length out) (length (rehearsed sheet))
+    then record { answer = 0; length = length (rehearsed sheet) }
+    else rehearseAnswer sheet world out) ≡ rehearseAnswer sheet world out)
+unfolding answerBy longest sheetIn stepsIn allZerosIn recorded rehearsed
+world-rehearse-answer-done-without-room p =
+    differ (λ (r : Rehearsed). r .answer) (sym (long-right one one-long _ _) ∙ p blank one [] ∙ answered-there one one-long blank []) tt
+
+-- a record that would just fit, in a buffer that the longest of as many steps does not fit into
+pub world-rehearse-answer-room-by-the-record : ¬ ((sheet world out : List ℕ) →
+    (if eqb (length world) 65536 && leb (length (rehearsed sheet)) (length out)
+    then record { answer = 0; length = length (rehearsed sheet) }
+    else rehearseAnswer sheet world out) ≡ rehearseAnswer sheet world out)
+unfolding answerBy longest sheetIn stepsIn allZerosIn recorded rehearsed
+world-rehearse-answer-room-by-the-record p =
+    differ (λ (r : Rehearsed). r .answer) (sym (long-right one one-long _ _) ∙ p blank one page ∙ answered-there one one-long blank page) tt
+
+pub world-rehearse-answer-bad-sheet-done : ¬ ((sheet world out : List ℕ) →
+    (if eqb (length world) 65536 && badSheet sheet
+    then record { answer = 0; length = length badOf }
+    else rehearseAnswer sheet world out) ≡ rehearseAnswer sheet world out)
+unfolding answerBy sheetIn line digits
+world-rehearse-answer-bad-sheet-done p =
+    differ (λ (r : Rehearsed). r .answer) (sym (long-right one one-long _ _) ∙ p [] one page ∙ answered-there one one-long [] page) tt
+
+pub world-rehearse-last-as-it-was : ¬ ((sheet world out : List ℕ) → world ≡ worldLeft sheet world out)
+unfolding longest line digits sheetIn stepsIn allZerosIn lastWorld
+world-rehearse-last-as-it-was p = starts-differ (p blank two wide ∙ left-there two two-long blank wide)
+
+-- the steps are run though the record has no room
+pub world-rehearse-last-run-without-room : ¬ ((sheet world out : List ℕ) →
+    (if eqb (length world) 65536 && not (badSheet sheet)
+    then image (lastWorld (start (getD sheet 5 0)) (stepsIn (stepsOf sheet) (drop 6 sheet)))
+    else worldLeft sheet world out) ≡ worldLeft sheet world out)
+unfolding longest line digits sheetIn stepsIn allZerosIn lastWorld
+world-rehearse-last-run-without-room p = starts-differ (sym (sym (long-right two two-long _ _) ∙ p blank two narrow ∙ left-there two two-long blank narrow))
 
 pub world-rehearse-printed-nothing : ¬ ((sheet world out : List ℕ) → (if badSheet sheet then recordLeft sheet world out else out) ≡ recordLeft sheet world out)
-unfolding laid sheetIn stepsIn allZerosIn recorded rehearsed
-world-rehearse-printed-nothing p = differ (entry 0) (p blank one page ∙ printed-there blank page) tt
+unfolding laidBy longest sheetIn stepsIn allZerosIn recorded
+world-rehearse-printed-nothing p = differ (entry 0) (p blank one wide ∙ printed-there one one-long blank wide) tt
 
 pub world-rehearse-printed-bad-always : ¬ ((sheet world out : List ℕ) → laid out 0 badOf ≡ recordLeft sheet world out)
-unfolding laid sheetIn stepsIn allZerosIn recorded rehearsed
-world-rehearse-printed-bad-always p = differ (entry 0) (p blank one page ∙ printed-there blank page) tt
+unfolding laid laidBy longest sheetIn stepsIn allZerosIn recorded
+world-rehearse-printed-bad-always p = differ (entry 0) (p blank one wide ∙ printed-there one one-long blank wide) tt
+
+pub world-rehearse-printed-bad-in-part : ¬ ((sheet world out : List ℕ) →
+    (if eqb (length world) 65536 && badSheet sheet
+    then laid out 0 badOf
+    else recordLeft sheet world out) ≡ recordLeft sheet world out)
+unfolding laid laidBy sheetIn line digits
+world-rehearse-printed-bad-in-part p = differ (entry 0) (sym (long-right one one-long _ _) ∙ p [] one narrow ∙ printed-there one one-long [] narrow) tt
+
+-- as much of a record as fits
+pub world-rehearse-printed-cut-short : ¬ ((sheet world out : List ℕ) →
+    (if eqb (length world) 65536 && not (badSheet sheet)
+    then laid out 0 (rehearsed sheet)
+    else recordLeft sheet world out) ≡ recordLeft sheet world out)
+unfolding laid laidBy longest sheetIn stepsIn allZerosIn recorded rehearsed
+world-rehearse-printed-cut-short p = differ (entry 0) (sym (long-right one one-long _ _) ∙ p blank one narrow ∙ printed-there one one-long blank narrow) tt
 
 -- the record of these steps, with these totals in its last line
 abbrev pub withTotals : ℕ → List Step → ℕ → ℕ → ℕ → ℕ → List ℕ
@@ -159,15 +221,21 @@ numbered mask ks =
     let os = outcomes (start mask) ks in
     startOf mask ++ (stepLines 0 os ++ endOf (sum sentBy os) (sum deliveredBy os) (sum droppedBy os) (waitingIn (lastWorld (start mask) ks .places)))
 
-pub world-rehearse-printed-numbers-from-0 : ¬ ((sheet world out : List ℕ) → (if eqb (length world) 65536 && not (badSheet sheet) then laid out 0 (numbered (getD sheet 5 0) (stepsIn (stepsOf sheet) (drop 6 sheet))) else recordLeft sheet world out) ≡ recordLeft sheet world out)
-unfolding laid sheetIn stepsIn allZerosIn recorded rehearsed numberAt
+pub world-rehearse-printed-numbers-from-0 : ¬ ((sheet world out : List ℕ) →
+    (if eqb (length world) 65536 && not (badSheet sheet)
+    then laid out 0 (numbered (getD sheet 5 0) (stepsIn (stepsOf sheet) (drop 6 sheet)))
+    else recordLeft sheet world out) ≡ recordLeft sheet world out)
+unfolding laid laidBy longest sheetIn stepsIn allZerosIn recorded numberAt
 world-rehearse-printed-numbers-from-0 p =
-    differ (entry 8) (sym (long-right _ _) ∙ p written one (replicate 40 0) ∙ printed-there written (replicate 40 0)) tt
+    differ (entry 8) (sym (long-right one one-long _ _) ∙ p written one wide ∙ printed-there one one-long written wide) tt
 
-pub world-rehearse-printed-invented-totals : ¬ ((sheet world out : List ℕ) → (if eqb (length world) 65536 && not (badSheet sheet) then laid out 0 (withTotals (getD sheet 5 0) (stepsIn (stepsOf sheet) (drop 6 sheet)) 0 0 0 0) else recordLeft sheet world out) ≡ recordLeft sheet world out)
-unfolding laid sheetIn stepsIn allZerosIn recorded rehearsed numberAt
+pub world-rehearse-printed-invented-totals : ¬ ((sheet world out : List ℕ) →
+    (if eqb (length world) 65536 && not (badSheet sheet)
+    then laid out 0 (withTotals (getD sheet 5 0) (stepsIn (stepsOf sheet) (drop 6 sheet)) 0 0 0 0)
+    else recordLeft sheet world out) ≡ recordLeft sheet world out)
+unfolding laid laidBy longest sheetIn stepsIn allZerosIn recorded numberAt
 world-rehearse-printed-invented-totals p =
-    differ (entry 26) (sym (long-right _ _) ∙ p written one (replicate 40 0) ∙ printed-there written (replicate 40 0)) tt
+    differ (entry 26) (sym (long-right one one-long _ _) ∙ p written one wide ∙ printed-there one one-long written wide) tt
 
 -- ---- engine
 
@@ -191,7 +259,7 @@ unfolding lentStart
 mask-0-there = rw (length-image (start 1))
 
 pub engine-world-start-answer-mask-0-accepted : ¬ ((w : List ℕ) (mask : ℕ) → (if eqb (length w) 65536 && eqb mask 0 then 0 else lentStart w mask .answer) ≡ lentStart w mask .answer)
-engine-world-start-answer-mask-0-accepted p = differ itself (sym (long-right _ _) ∙ p one 0 ∙ mask-0-there) tt
+engine-world-start-answer-mask-0-accepted p = differ itself (sym (long-right one one-long _ _) ∙ p one 0 ∙ mask-0-there) tt
 
 pub engine-world-start-buffer-as-it-was : ¬ ((w : List ℕ) (mask : ℕ) → w ≡ lentStart w mask .buffer)
 engine-world-start-buffer-as-it-was p = starts-differ (p two 1 ∙ buffer-of (start-of two (length-image (start 2))))

@@ -100,7 +100,7 @@ module _ (sheet world out told : List ℕ) where
   module _
       (room : 4 ≤ length told)
       (r : Rehearsed) (w o : List ℕ)
-      (e : (r ≡ rehearseAnswer sheet world out) × ((w ≡ worldLeft sheet world) × (o ≡ recordLeft sheet world out)))
+      (e : (r ≡ rehearseAnswer sheet world out) × ((w ≡ worldLeft sheet world out) × (o ≡ recordLeft sheet world out)))
     where
       pub turned-away : (r .answer ≡ 0 → ⊥)
           → (r .answer ≡ rehearsal .answer) × ((w ≡ rehearsal .last) × ((o ≡ rehearsal .printed) × (told ≡ rehearsal .told)))

@@ -8,7 +8,7 @@ use native.Mathlib.Numerals.{add-one}
 use native.Mathlib.Omega.{arith}
 use lib.Dec.{leb}
 use lib.ListN.{length, getD, take, drop, set, length-append, length-set}
-use lib.Seq.{drop-nil, drop-cons, set-out}
+use lib.Seq.{take-all, drop-nil, drop-cons, set-out}
 use borrow.Author.Tests.{leb-true, leb-false}
 use Rattle.rows.specs.Bytes.{placed}
 use Rattle.rows.proofs.Laws.{set-placed}
@@ -45,6 +45,10 @@ unfolding laid
 laid-front [] b = laid-past [] 0 b (omega arith) ∙ sym (drop-nil (length b))
 laid-front (y ∷ out) [] = refl
 laid-front (y ∷ out) (x ∷ b) = laid-cons x out 0 b ∙ ap (λ (l : List ℕ). x ∷ l) (laid-front out b)
+
+-- what fits is there whole
+pub laid-whole : (out b : List ℕ) → length b ≤ length out → laid out 0 b ≡ b ++ drop (length b) out
+laid-whole out b h = laid-front out b ∙ ap (λ (l : List ℕ). l ++ drop (length b) out) (take-all (length out) b h)
 
 -- one byte is a piece of one byte
 pub laid-byte : (out : List ℕ) (at x : ℕ) → placed out at (x ∷ []) ≡ laid out at (x ∷ [])

@@ -1,4 +1,4 @@
--- "sent is the sum of the others". Assumes nothing.
+-- "sent is the sum of the others"; a step delivers or drops no more than one message. Assumes nothing.
 use mathlib.Core.Path.{_≡_, refl, ap}
 use mathlib.Core.Bool.{true, and-eq-true-iff}
 use mathlib.Core.List.{List, [], _∷_}
@@ -44,6 +44,12 @@ free-less (waiting x ∷ ps) zero m e = refl
 free-less (free ∷ ps) (suc p) m e = free-less ps p m e
 free-less (waiting x ∷ ps) (suc p) m e = ap suc (free-less ps p m e)
 
+pub places-all : (ps : List Place) → freeIn ps + waitingIn ps ≡ length ps
+unfolding freeIn waitingIn
+places-all [] = refl
+places-all (free ∷ ps) = omega (arith, places-all ps)
+places-all (waiting m ∷ ps) = omega (arith, places-all ps)
+
 -- ---- one step
 
 abbrev waits : World → ℕ
@@ -51,14 +57,15 @@ waits w = waitingIn (w .places)
 
 pub record Balanced (w : World) (o : Outcome) : Type 0 where
   pub even : waits (after w o) + deliveredBy o + droppedBy o ≡ waits w + sentBy o
+  pub one : deliveredBy o + droppedBy o ≤ 1
 
 refusal-even : (w : World) (x : Refusal) → Balanced w (refusal x)
-refusal-even w x = record { even = omega arith }
+refusal-even w x = record { even = omega arith; one = omega arith }
 
-module _ (w f : World) (n : ℕ) (e : waits f + n ≡ waits w) where
+module _ (w f : World) (n : ℕ) (l : n ≤ 1) (e : waits f + n ≡ waits w) where
   sent-even : (ms : List Message) (g : World) (r : Report) → g .places ≡ placeAll ms (f .places) → roomy f ms ≡ true → Balanced w (done g r (length ms) n 0)
   unfolding roomy
-  sent-even ms g r p h = record { even = omega (arith, place-all ms (f .places) (leb-true _ _ h), ap waitingIn p) }
+  sent-even ms g r p h = record { even = omega (arith, place-all ms (f .places) (leb-true _ _ h), ap waitingIn p); one = omega arith }
 
   relay-even : (s : ℕ) (a : Answer Relay) → Balanced w (relayDoes f n s a)
   unfolding relayDoes
@@ -86,7 +93,7 @@ module _ (w : World) (p : ℕ) where
   unfolding delivers
   delivers-even m e =
       cases (Balanced w) (ltb (m .to) 8)
-      (λ _. relay-even w (freed w p) 1 (freed-waits m e) (m .to) _) (λ _. desk-even w (freed w p) 1 (freed-waits m e) (m .to - 8) _)
+      (λ _. relay-even w (freed w p) 1 (omega arith) (freed-waits m e) (m .to) _) (λ _. desk-even w (freed w p) 1 (omega arith) (freed-waits m e) (m .to - 8) _)
 
   delivery-even : (x : Place) → placeAt w p ≡ x → Balanced w (delivery w p x)
   unfolding delivery
@@ -96,19 +103,20 @@ module _ (w : World) (p : ℕ) where
   dropping-even : (x : Place) → placeAt w p ≡ x → Balanced w (dropping w p x)
   unfolding dropping
   dropping-even free e = refusal-even w _
-  dropping-even (waiting m) e = record { even = omega (arith, freed-waits m e) }
+  dropping-even (waiting m) e = record { even = omega (arith, freed-waits m e); one = omega arith }
 
 crashing-even : (w : World) (who : ℕ) → Balanced w (crashing w who)
 unfolding crashing
-crashing-even w who = cases (Balanced w) (ltb who 8) (λ _. record { even = omega arith }) (λ _. record { even = omega arith })
+crashing-even w who =
+    cases (Balanced w) (ltb who 8) (λ _. record { even = omega arith; one = omega arith }) (λ _. record { even = omega arith; one = omega arith })
 
 acts-even : (w : World) (a : Act) → Balanced w (acts w a)
 unfolding acts
-acts-even w (join s) = alive-even w s _ (relay-even w w 0 (omega arith) s _)
-acts-even w (leave s) = alive-even w s _ (relay-even w w 0 (omega arith) s _)
-acts-even w (timer s) = alive-even w s _ (relay-even w w 0 (omega arith) s _)
-acts-even w (read n) = alive-even w (8 + n) _ (desk-even w w 0 (omega arith) n _)
-acts-even w (write n x) = alive-even w (8 + n) _ (desk-even w w 0 (omega arith) n _)
+acts-even w (join s) = alive-even w s _ (relay-even w w 0 (omega arith) (omega arith) s _)
+acts-even w (leave s) = alive-even w s _ (relay-even w w 0 (omega arith) (omega arith) s _)
+acts-even w (timer s) = alive-even w s _ (relay-even w w 0 (omega arith) (omega arith) s _)
+acts-even w (read n) = alive-even w (8 + n) _ (desk-even w w 0 (omega arith) (omega arith) n _)
+acts-even w (write n x) = alive-even w (8 + n) _ (desk-even w w 0 (omega arith) (omega arith) n _)
 acts-even w (deliver p) = delivery-even w p (placeAt w p) refl
 acts-even w (drop p) = dropping-even w p (placeAt w p) refl
 acts-even w (crash who) = alive-even w who _ (crashing-even w who)
@@ -127,6 +135,12 @@ pub run-even : (w : World) (ks : List Step) → waits w + totals w ks sentBy ≡
 unfolding outcomes lastWorld sum
 run-even w [] = omega arith
 run-even w (k ∷ ks) = omega (arith, step-even w k .even, run-even (after w (stepped w k)) ks)
+
+-- of a run no more than its steps
+pub run-few : (w : World) (ks : List Step) → totals w ks deliveredBy + totals w ks droppedBy ≤ length ks
+unfolding outcomes sum
+run-few w [] = omega arith
+run-few w (k ∷ ks) = omega (arith, step-even w k .one, run-few (after w (stepped w k)) ks)
 
 none-waiting : (n : ℕ) → waitingIn (replicate n free) ≡ 0
 unfolding waitingIn

@@ -17,7 +17,7 @@ use Rattle.rules.specs.State.{Desk, Phase, Idle, Read1, Read2, Write1, W
 use Rattle.rules.specs.Desks.{isIdle, isFirst, isSecond, full, cleared, asks, begins, ended, readAsked, writeAsked, current, viewCame, notesPair, notesAck, takesStamp, completes, counted, pairCame, ackCame, deskHears}
 use Rattle.rules.specs.WellFormed.{isStamp, isPair, isZeroPair, isDesk, goodBest, goodPhase, goodDesk, goodBody}
 use Rattle.rules.proofs.Hold.{hold-facts, hold-tests}
-use Rattle.rules.proofs.Sends.{SendWell, SendsWell, sends-none, sends-one, one-more}
+use Rattle.rules.proofs.Sends.{SendWell, SendsWell, sends-none, sends-one, EventWell, one-more}
 use Rattle.rules.proofs.Transfers.{greatest-pair}
 
 pub record Dsk (d : Desk) : Type 0 where
@@ -36,15 +36,18 @@ desk-tests d h = hold-tests _ (lt-ltb _ _ (h .view), (lt-ltb _ _ (h .tries), (h 
 
 unfoldable pub GoodAnswer : ℕ → Answer Desk → Type 0
 GoodAnswer n (refused x) = Unit {0}
-GoodAnswer n (does d ss e) = Dsk d × SendsWell (8 + n) ss
+GoodAnswer n (does d ss e) = Dsk d × (SendsWell (8 + n) ss × EventWell e)
 
 refuses-well : (n : ℕ) (x : Refusal) → GoodAnswer n (refused x)
 unfolding GoodAnswer
 refuses-well n x = tt
 
-does-well : (n : ℕ) (d : Desk) (ss : List Sending) (e : Event) → Dsk d → SendsWell (8 + n) ss → GoodAnswer n (does d ss e)
+tells-well : (n : ℕ) (d : Desk) (ss : List Sending) (e : Event) → Dsk d → SendsWell (8 + n) ss → EventWell e → GoodAnswer n (does d ss e)
 unfolding GoodAnswer
-does-well n d ss e h k = (h, k)
+tells-well n d ss e h k t = (h, (k, t))
+
+does-well : (n : ℕ) (d : Desk) (ss : List Sending) → Dsk d → SendsWell (8 + n) ss → GoodAnswer n (does d ss nothing)
+does-well n d ss h k = tells-well n d ss nothing h k tt
 
 -- ---- the stamp and value that a phase holds
 
@@ -117,7 +120,7 @@ module _ (n : ℕ) (desk : n < 4) where
       cases (GoodAnswer n) (full (d .tries)) (λ k. refuses-well n _)
       (λ k.
       let t : d .tries + 1 < 65536 = omega (arith, leb-false) in
-      does-well n (cleared d ph v p (d .tries + 1)) _ nothing (cleared-good d ph v p (d .tries + 1) l t e)
+      does-well n (cleared d ph v p (d .tries + 1)) _ (cleared-good d ph v p (d .tries + 1) l t e)
       (sends-one (8 + n) _ (asks-well ph (d .tries + 1) v p t l (fit-pair ph p e))))
 
   pub read-kept : (d : Desk) → Dsk d → GoodAnswer n (readAsked d)
@@ -135,11 +138,11 @@ module _ (n : ℕ) (desk : n < 4) where
   view-kept d from try v h l =
       cases (GoodAnswer n) (current d from try && inside (d .view) v)
       (λ e. begins-good d (d .phase) v (d .holds) l (held-fits (d .phase) d (h .phase)))
-      (λ e. does-well n d [] nothing h (sends-none (8 + n)))
+      (λ e. does-well n d [] h (sends-none (8 + n)))
 
-  ended-good : (d : Desk) (e : Event) → Dsk d → GoodAnswer n (does (ended d) [] e)
+  ended-good : (d : Desk) (e : Event) → Dsk d → EventWell e → GoodAnswer n (does (ended d) [] e)
   unfolding holdsFit
-  ended-good d e h = does-well n (ended d) [] e (cleared-good d Idle (d .view) zeroPair (d .tries) (h .view) (h .tries) refl) (sends-none (8 + n))
+  ended-good d e h t = tells-well n (ended d) [] e (cleared-good d Idle (d .view) zeroPair (d .tries) (h .view) (h .tries) refl) (sends-none (8 + n)) t
 
   stamps-good : (d : Desk) → Dsk d → isPair (d .best) ≡ true → isPair (d .holds) ≡ true → GoodAnswer n (takesStamp n d)
   unfolding takesStamp holdsFit isPair
@@ -155,17 +158,18 @@ module _ (n : ℕ) (desk : n < 4) where
 
   completes-good : (d : Desk) (ph : Phase) → Dsk d → goodPhase ph d ≡ true → GoodAnswer n (completes n d ph)
   unfolding completes goodPhase
-  completes-good d Idle h g = does-well n d [] nothing h (sends-none (8 + n))
+  completes-good d Idle h g = does-well n d [] h (sends-none (8 + n))
   completes-good d Read1 h g =
-      cases (GoodAnswer n) (d .agreed) (λ e. ended-good d (readDone (d .best)) h)
+      cases (GoodAnswer n) (d .agreed) (λ e. ended-good d (readDone (d .best)) h (best-pair d (hold-facts _ g .1 .0)))
       (λ e. begins-good d Read2 (d .view) (d .best) (h .view) (unfold holdsFit in (best-pair d (hold-facts _ g .1 .0))))
-  completes-good d Read2 h g = ended-good d (readDone (d .holds)) h
+  completes-good d Read2 h g = ended-good d (readDone (d .holds)) h (hold-facts _ g .0)
   completes-good d Write1 h g = let k = hold-facts _ g in stamps-good d h (best-pair d (k .1 .1 .1 .0)) (k .0)
-  completes-good d Write2 h g = ended-good d (writeDone (d .holds)) h
+  completes-good d Write2 h g = ended-good d (writeDone (d .holds)) h (hold-facts _ g .0)
 
   counted-good : (d : Desk) → Dsk d → GoodAnswer n (counted n d)
   unfolding counted
-  counted-good d h = cases (GoodAnswer n) (reaches (d .view) (d .replied)) (λ e. completes-good d (d .phase) h (h .phase)) (λ e. does-well n d [] nothing h (sends-none (8 + n)))
+  counted-good d h =
+      cases (GoodAnswer n) (reaches (d .view) (d .replied)) (λ e. completes-good d (d .phase) h (h .phase)) (λ e. does-well n d [] h (sends-none (8 + n)))
 
   -- a reply is noted
   module _ (d : Desk) (from : ℕ) (h : Dsk d) (m : member (d .view) from ≡ true) where
@@ -211,7 +215,7 @@ module _ (n : ℕ) (desk : n < 4) where
       (λ e.
       let k = and-eq-true-iff (current d from try) (isFirst (d .phase)) .0 e in
       counted-good (notesPair d from p) (pair-noted d from h (current-member d from try (k .0)) p (k .1) i))
-      (λ e. does-well n d [] nothing h (sends-none (8 + n)))
+      (λ e. does-well n d [] h (sends-none (8 + n)))
 
   pub ack-kept : (d : Desk) (from try : ℕ) → Dsk d → GoodAnswer n (ackCame n d from try)
   unfolding ackCame
@@ -220,18 +224,18 @@ module _ (n : ℕ) (desk : n < 4) where
       (λ e.
       let k = and-eq-true-iff (current d from try) (isSecond (d .phase)) .0 e in
       counted-good (notesAck d from) (ack-noted d from h (current-member d from try (k .0)) (k .1)))
-      (λ e. does-well n d [] nothing h (sends-none (8 + n)))
+      (λ e. does-well n d [] h (sends-none (8 + n)))
 
   pub hears-kept : (d : Desk) (m : Message) (b : Body) → Dsk d → goodBody m b ≡ true → GoodAnswer n (deskHears n d (m .from) b)
   unfolding deskHears goodBody
   hears-kept d m (viewReply try v) h g = let k = hold-facts _ g in view-kept d (m .from) try v h (ltb-true _ _ (k .1 .0))
   hears-kept d m (pairReply try p) h g = let k = hold-facts _ g in pair-kept d (m .from) try p h (k .1 .0)
   hears-kept d m (ack try) h g = ack-kept d (m .from) try h
-  hears-kept d m (request u c) h g = does-well n d [] nothing h (sends-none (8 + n))
-  hears-kept d m (view v) h g = does-well n d [] nothing h (sends-none (8 + n))
-  hears-kept d m (proposal v q) h g = does-well n d [] nothing h (sends-none (8 + n))
-  hears-kept d m (converged v q) h g = does-well n d [] nothing h (sends-none (8 + n))
-  hears-kept d m (install o w q) h g = does-well n d [] nothing h (sends-none (8 + n))
-  hears-kept d m (state o w p updates) h g = does-well n d [] nothing h (sends-none (8 + n))
-  hears-kept d m (get try c) h g = does-well n d [] nothing h (sends-none (8 + n))
-  hears-kept d m (put try c p) h g = does-well n d [] nothing h (sends-none (8 + n))
+  hears-kept d m (request u c) h g = does-well n d [] h (sends-none (8 + n))
+  hears-kept d m (view v) h g = does-well n d [] h (sends-none (8 + n))
+  hears-kept d m (proposal v q) h g = does-well n d [] h (sends-none (8 + n))
+  hears-kept d m (converged v q) h g = does-well n d [] h (sends-none (8 + n))
+  hears-kept d m (install o w q) h g = does-well n d [] h (sends-none (8 + n))
+  hears-kept d m (state o w p updates) h g = does-well n d [] h (sends-none (8 + n))
+  hears-kept d m (get try c) h g = does-well n d [] h (sends-none (8 + n))
+  hears-kept d m (put try c p) h g = does-well n d [] h (sends-none (8 + n))

@@ -1,4 +1,4 @@
--- EVERY ACCEPTED STEP FROM A GOOD WORLD GIVES A GOOD ONE. Assumes nothing.
+-- EVERY ACCEPTED STEP FROM A GOOD WORLD GIVES A GOOD ONE; and what a step from a good world reports is in range. Assumes nothing.
 use mathlib.Core.Path.{_≡_, refl, ap, _∙_}
 use mathlib.Core.Logic.{⊎-elim}
 use mathlib.Core.Bool.{Bool, true, false, and-eq-true-iff}
@@ -11,15 +11,15 @@ use borrow.Author.Tests.{ltb-true, ltb-false, eqb-true, lt-ltb, eq-eqb}
 use Rattle.views.proofs.Sets.{member-lt}
 use Rattle.views.proofs.Truth.{contrary, either-true, cases}
 use Rattle.rules.specs.Sets.{_&&_, those, bit, member, all, allHold}
-use Rattle.rules.specs.Messages.{Body, request, view, proposal, converged, install, state, get, put, viewReply, pairReply, ack, Message, Sending, copies, outgoing, Refusal, dead, no-room, Answer, refused, does}
+use Rattle.rules.specs.Messages.{Body, request, view, proposal, converged, install, state, get, put, viewReply, pairReply, ack, Message, Sending, copies, outgoing, Event, nothing, opened, readDone, writeDone, Refusal, dead, no-room, Answer, refused, does}
 use Rattle.rules.specs.State.{Desk, Phase, Idle, Read1, Read2, Write1, Write2, Relay, Place, free, waiting, World, crashedRelay, crashedDesk, noRelay, noDesk, relayAt, deskAt, placeAt, withRelay, withDesk, withPlaces, start}
 use Rattle.rules.specs.Sending.{place, placeAll}
-use Rattle.rules.specs.Steps.{drop, Step, Act, join, leave, timer, read, write, deliver, crash, bad, is, told, Outcome, refusal, after, roomy, relayDoes, deskDoes, aliveIn, ifAlive, freed, delivers, delivery, dropping, crashing, acts, stepped}
+use Rattle.rules.specs.Steps.{drop, Step, Act, join, leave, timer, read, write, deliver, crash, bad, is, told, Report, Outcome, refusal, after, report, reports, roomy, relayDoes, deskDoes, aliveIn, ifAlive, freed, delivers, delivery, dropping, crashing, acts, stepped}
 use Rattle.rules.specs.WellFormed.{isPair, allFrom, distinct, isDesk, goodGenerators, goodTransfers, goodRelay, goodPhase, goodDesk, between, goodBody, goodPlace, wellFormed}
 use Rattle.rules.specs.Runs.{lastWorld}
 use Rattle.rules.proofs.Starts.{start-good}
 use Rattle.rules.proofs.Hold.{hold-facts, hold-tests, from-set, from-at, all-none, all-parts, all-more, all-set, all-at, all-append}
-use Rattle.rules.proofs.Sends.{SendWell, SendsWell, to-member}
+use Rattle.rules.proofs.Sends.{SendWell, SendsWell, EventWell, to-member}
 use Rattle.rules.proofs.Relays as R
 use Rattle.rules.proofs.Serving as S
 use Rattle.rules.proofs.Desks as D
@@ -138,32 +138,47 @@ with-sent {w} g from ss h = record {
 
 -- ---- outcomes
 
+-- an event of one of eight relays or four desks
+pub record Tells (r : Report) : Type 0 where
+  pub event : EventWell (r .event)
+  pub who : r .who < 8
+
 pub record Keeps (w : World) (o : Outcome) : Type 0 where
   pub good : Good (after w o)
+  pub tells : Tells (report o)
+
+tells-nothing : (who : ℕ) → Tells (reports nothing who)
+tells-nothing who = record { event = tt; who = omega arith }
+
+tells-who : (e : Event) (who : ℕ) → EventWell e → who < 8 → Tells (reports e who)
+tells-who nothing who t l = tells-nothing who
+tells-who (opened v) who t l = record { event = t; who = l }
+tells-who (readDone p) who t l = record { event = t; who = l }
+tells-who (writeDone p) who t l = record { event = t; who = l }
 
 refuses : (w : World) → Good w → (x : Refusal) → Keeps w (refusal x)
-refuses w g x = record { good = g }
+refuses w g x = record { good = g; tells = tells-nothing 0 }
 
 module _ (w f : World) (g : Good w) (k : Good f) (n : ℕ) where
-  relay-does : (s : ℕ) → (a : Answer Relay) → R.GoodAnswer s a → Keeps w (relayDoes f n s a)
+  relay-does : (s : ℕ) → s < 8 → (a : Answer Relay) → R.GoodAnswer s a → Keeps w (relayDoes f n s a)
   unfolding relayDoes R.GoodAnswer
-  relay-does s (refused x) h = refuses w g x
-  relay-does s (does r ss e) h =
+  relay-does s l (refused x) h = refuses w g x
+  relay-does s l (does r ss e) h =
       cases (Keeps w) (roomy f (outgoing s ss) && (leb (length (r .generators)) 8 && leb (length (r .transfers)) 8))
       (λ c.
       let sizes = and-eq-true-iff (leb (length (r .generators)) 8) (leb (length (r .transfers)) 8) .0 (and-eq-true-iff (roomy f (outgoing s ss)) _ .0 c .1) in
       let next : Good (withRelay f s r) = with-relay f k s r (R.rel-tests s r (h .0) (sizes .0) (sizes .1)) in
-      record { good = with-sent next s ss (h .1) })
+      record { good = with-sent next s ss (h .1 .0); tells = tells-who e s (h .1 .1) l })
       (λ c. refuses w g no-room)
 
-  desk-does : (d : ℕ) → (a : Answer Desk) → D.GoodAnswer d a → Keeps w (deskDoes f n d a)
+  desk-does : (d : ℕ) → d < 4 → (a : Answer Desk) → D.GoodAnswer d a → Keeps w (deskDoes f n d a)
   unfolding deskDoes D.GoodAnswer
-  desk-does d (refused x) h = refuses w g x
-  desk-does d (does next ss e) h =
+  desk-does d l (refused x) h = refuses w g x
+  desk-does d l (does next ss e) h =
       cases (Keeps w) (roomy f (outgoing (8 + d) ss))
       (λ c.
       let put : Good (withDesk f d next) = with-desk f k d next (D.desk-tests next (h .0)) in
-      record { good = with-sent put (8 + d) ss (h .1) })
+      record { good = with-sent put (8 + d) ss (h .1 .0); tells = tells-who e d (h .1 .1) (omega arith) })
       (λ c. refuses w g no-room)
 
 if-alive : (w : World) → Good w → (who : ℕ) (o : Outcome) → Keeps w o → Keeps w (ifAlive w who o)
@@ -204,12 +219,12 @@ module _ (w : World) (g : Good w) where
       cases (Keeps w) (ltb (m .to) 8)
       (λ e.
       let l : m .to < 8 = ltb-true (m .to) 8 e in
-      relay-does w (freed w p) g f 1 (m .to) _
+      relay-does w (freed w p) g f 1 (m .to) l _
       (S.hears-kept (m .to) (relayAt (freed w p) (m .to)) (m .from) (m .body) (R.rel-facts (m .to) (relayAt (freed w p) (m .to)) (relay-of (freed w p) f (m .to))) l b))
       (λ e.
       let d = to-desk m (m .body) b e in
       let l : m .to - 8 < 4 = omega (arith, ltb-true (m .to) 12 (and-eq-true-iff (leb 8 (m .to)) (ltb (m .to) 12) .0 d .1), ltb-false (m .to) 8 e) in
-      desk-does w (freed w p) g f 1 (m .to - 8) _
+      desk-does w (freed w p) g f 1 (m .to - 8) l _
       (D.hears-kept (m .to - 8) l (deskAt (freed w p) (m .to - 8)) m (m .body) (D.desk-facts (deskAt (freed w p) (m .to - 8)) (desk-of (freed w p) f (m .to - 8))) b))
 
   delivery-good : (p : ℕ) (x : Place) → goodPlace x ≡ true → Keeps w (delivery w p x)
@@ -220,7 +235,7 @@ module _ (w : World) (g : Good w) where
   dropping-good : (p : ℕ) (x : Place) → Keeps w (dropping w p x)
   unfolding dropping
   dropping-good p free = refuses w g _
-  dropping-good p (waiting m) = record { good = freed-good p }
+  dropping-good p (waiting m) = record { good = freed-good p; tells = tells-nothing 0 }
 
   relay-crashed : (s : ℕ) (r : Relay) → goodRelay s r ≡ true → goodRelay s (crashedRelay r) ≡ true
   unfolding goodRelay crashedRelay
@@ -243,8 +258,8 @@ module _ (w : World) (g : Good w) where
   unfolding crashing
   crashing-good who l =
       cases (Keeps w) (ltb who 8)
-      (λ e. record { good = with-relay w g who _ (relay-crashed who (relayAt w who) (relay-of w g who)) })
-      (λ e. record { good = with-desk w g (who - 8) _ (desk-crashed (deskAt w (who - 8)) (desk-of w g (who - 8))) })
+      (λ e. record { good = with-relay w g who _ (relay-crashed who (relayAt w who) (relay-of w g who)); tells = tells-nothing 0 })
+      (λ e. record { good = with-desk w g (who - 8) _ (desk-crashed (deskAt w (who - 8)) (desk-of w g (who - 8))); tells = tells-nothing 0 })
 
 -- ---- the steps
 
@@ -282,11 +297,12 @@ in-range k =
 
 acts-good : (w : World) → Good w → (a : Act) → InRange a → Keeps w (acts w a)
 unfolding acts InRange
-acts-good w g (join s) l = if-alive w g s _ (relay-does w w g g 0 s _ (S.join-kept s (relayAt w s) (R.rel-facts s (relayAt w s) (relay-of w g s)) l))
-acts-good w g (leave s) l = if-alive w g s _ (relay-does w w g g 0 s _ (S.leave-kept s (relayAt w s) (R.rel-facts s (relayAt w s) (relay-of w g s)) l))
-acts-good w g (timer s) l = if-alive w g s _ (relay-does w w g g 0 s _ (S.timer-kept s (relayAt w s) (R.rel-facts s (relayAt w s) (relay-of w g s)) l))
-acts-good w g (read n) l = if-alive w g (8 + n) _ (desk-does w w g g 0 n _ (D.read-kept n l (deskAt w n) (D.desk-facts (deskAt w n) (desk-of w g n))))
-acts-good w g (write n x) l = if-alive w g (8 + n) _ (desk-does w w g g 0 n _ (D.write-kept n (l .0) (deskAt w n) x (D.desk-facts (deskAt w n) (desk-of w g n)) (l .1)))
+acts-good w g (join s) l = if-alive w g s _ (relay-does w w g g 0 s l _ (S.join-kept s (relayAt w s) (R.rel-facts s (relayAt w s) (relay-of w g s)) l))
+acts-good w g (leave s) l = if-alive w g s _ (relay-does w w g g 0 s l _ (S.leave-kept s (relayAt w s) (R.rel-facts s (relayAt w s) (relay-of w g s)) l))
+acts-good w g (timer s) l = if-alive w g s _ (relay-does w w g g 0 s l _ (S.timer-kept s (relayAt w s) (R.rel-facts s (relayAt w s) (relay-of w g s)) l))
+acts-good w g (read n) l = if-alive w g (8 + n) _ (desk-does w w g g 0 n l _ (D.read-kept n l (deskAt w n) (D.desk-facts (deskAt w n) (desk-of w g n))))
+acts-good w g (write n x) l =
+    if-alive w g (8 + n) _ (desk-does w w g g 0 n (l .0) _ (D.write-kept n (l .0) (deskAt w n) x (D.desk-facts (deskAt w n) (desk-of w g n)) (l .1)))
 acts-good w g (deliver p) l = delivery-good w g p (placeAt w p) (place-of w g p)
 acts-good w g (drop p) l = dropping-good w g p (placeAt w p)
 acts-good w g (crash who) l = if-alive w g who _ (crashing-good w g who l)
@@ -295,6 +311,10 @@ acts-good w g bad l = refuses w g _
 pub step-keeps : (w : World) (k : Step) → wellFormed w ≡ true → wellFormed (after w (stepped w k)) ≡ true
 unfolding stepped
 step-keeps w k e = good-tests _ (acts-good w (good-facts w e) (told k) (in-range k) .good)
+
+pub step-tells : (w : World) (k : Step) → wellFormed w ≡ true → Tells (report (stepped w k))
+unfolding stepped
+step-tells w k e = acts-good w (good-facts w e) (told k) (in-range k) .tells
 
 -- every world of a run is good
 pub run-keeps : (w : World) (ks : List Step) → wellFormed w ≡ true → wellFormed (lastWorld w ks) ≡ true

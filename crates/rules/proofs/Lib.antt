@@ -11,6 +11,7 @@ pub mod Transfers
 pub mod Serving
 pub mod Desks
 pub mod Kept
+pub mod Longest
 pub mod Sheets
 pub mod Rooms
 pub mod Taken

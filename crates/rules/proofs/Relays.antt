@@ -7,13 +7,13 @@ use lib.Dec.{eqb, leb}
 use lib.ListN.{length}
 use borrow.Author.Tests.{ltb-true, eqb-true, lt-ltb}
 use Rattle.rules.specs.Sets.{_&&_, member, above, none, all}
-use Rattle.rules.specs.Messages.{Sending, Event, Refusal, Answer, refused, does}
+use Rattle.rules.specs.Messages.{Sending, Event, nothing, Refusal, Answer, refused, does}
 use Rattle.rules.specs.State.{Generator, Transfer, Relay, withGenerators}
 use Rattle.rules.specs.Generators.{generatorFor, putGenerator, Turn, proposes, proposalHeard, convergedHeard}
 use Rattle.rules.specs.Relays.{atGenerator}
 use Rattle.rules.specs.WellFormed.{isPair, implies, sameBool, distinct, goodGenerator, goodTransfer, otherView, otherMove, goodGenerators, goodTransfers, goodRelay}
 use Rattle.rules.proofs.Hold.{hold-facts, hold-tests, all-put, distinct-put}
-use Rattle.rules.proofs.Sends.{SendsWell}
+use Rattle.rules.proofs.Sends.{SendsWell, EventWell}
 use Rattle.rules.proofs.Generators.{Gen, gen-tests, GoodTurn, looked-up, view-of, propose-good, proposal-good, converged-good}
 
 -- ---- a good relay, by names; that its tables are no longer than 8 is left to the step
@@ -93,15 +93,18 @@ rel-tests s r h lg lt =
 
 unfoldable pub GoodAnswer : ℕ → Answer Relay → Type 0
 GoodAnswer s (refused x) = Unit {0}
-GoodAnswer s (does r ss e) = Rel s r × SendsWell s ss
+GoodAnswer s (does r ss e) = Rel s r × (SendsWell s ss × EventWell e)
 
 pub refuses-well : (s : ℕ) (x : Refusal) → GoodAnswer s (refused x)
 unfolding GoodAnswer
 refuses-well s x = tt
 
-pub does-well : (s : ℕ) (r : Relay) (ss : List Sending) (e : Event) → Rel s r → SendsWell s ss → GoodAnswer s (does r ss e)
+pub tells-well : (s : ℕ) (r : Relay) (ss : List Sending) (e : Event) → Rel s r → SendsWell s ss → EventWell e → GoodAnswer s (does r ss e)
 unfolding GoodAnswer
-does-well s r ss e h k = (h, k)
+tells-well s r ss e h k t = (h, (k, t))
+
+pub does-well : (s : ℕ) (r : Relay) (ss : List Sending) → Rel s r → SendsWell s ss → GoodAnswer s (does r ss nothing)
+does-well s r ss h k = tells-well s r ss nothing h k tt
 
 -- ---- a generator put back
 
@@ -119,7 +122,7 @@ different-put = distinct-put sameView putGenerator (λ g. refl) (λ g h hs. refl
 pub at-generator : (s v : ℕ) (r : Relay) (t : Turn) → Rel s r → GoodTurn s v t → GoodAnswer s (atGenerator r t)
 unfolding atGenerator withGenerators
 at-generator s v r t h k =
-    does-well s _ _ _
+    does-well s _ _
     (rel-tables h (putGenerator (t .next) (r .generators)) (r .transfers)
     (good-put s (t .next) (gen-tests s (t .next) (k .next)) (r .generators) (h .generators)) (different-put (t .next) (r .generators) (h .different))
     (h .transfers) (h .apart))

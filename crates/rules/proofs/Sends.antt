@@ -1,4 +1,5 @@
--- What is sent well: every message of it is one that its rule could send. And what a member of a view is, to its receivers and repliers. Assumes nothing.
+-- What is sent well: every message of it is one that its rule could send. Events whose fields are in range. And what a member of a view is, to its receivers
+-- and repliers. Assumes nothing.
 use mathlib.Core.Path.{_≡_, sym, _∙_}
 use mathlib.Core.Bool.{true, and-eq-true-iff}
 use mathlib.Core.List.{List, [], _∷_, _++_}
@@ -8,8 +9,8 @@ use Rattle.views.proofs.Truth.{contrary}
 use Rattle.views.proofs.Digits.{bit-none, bit-one}
 use Rattle.views.proofs.Sets.{or-within, one-within, within-fact, within-test, member-bit}
 use Rattle.rules.specs.Sets.{bit, members, member, within, joins, joined}
-use Rattle.rules.specs.Messages.{Message, Sending}
-use Rattle.rules.specs.WellFormed.{between, goodBody}
+use Rattle.rules.specs.Messages.{Message, Sending, Event, nothing, opened, readDone, writeDone}
+use Rattle.rules.specs.WellFormed.{isPair, between, goodBody}
 
 abbrev pub SendWell : ℕ → Sending → Type 0
 SendWell from x = (n : ℕ) → n < 12 → bit (x .receivers) n ≡ true → goodBody (record { from = from; to = n; body = x .body }) (x .body) ≡ true
@@ -30,6 +31,13 @@ pub sends-append : (from : ℕ) (a b : List Sending) → SendsWell from a → Se
 unfolding SendsWell
 sends-append from [] b h k = k
 sends-append from (x ∷ a) b h k = (h .0, sends-append from a b (h .1) k)
+
+-- the view, or the stamp and value, that an event tells
+abbrev pub EventWell : Event → Type 0
+EventWell nothing = Unit {0}
+EventWell (opened v) = v < 65536
+EventWell (readDone p) = isPair p ≡ true
+EventWell (writeDone p) = isPair p ≡ true
 
 -- from a member of v to a member of w
 pub from-member : (v w : ℕ) (m : Message) → between v w m ≡ true → member v (m .from) ≡ true

@@ -12,7 +12,7 @@ use Rattle.views.proofs.Sets.{inside-or, within-test, member-bit}
 use Rattle.views.proofs.Truth.{contrary, true-left, true-right, neither-true, cases}
 use Rattle.rules.specs.Sets.{_&&_, _||_, bit, within, member, inside, joins, leaves, joined}
 use Rattle.rules.specs.Stamps.{Pair}
-use Rattle.rules.specs.Messages.{Body, request, view, proposal, converged, install, state, get, put, viewReply, pairReply, ack, Message, toMembers, toOne, nothing}
+use Rattle.rules.specs.Messages.{Body, request, view, proposal, converged, install, state, get, put, viewReply, pairReply, ack, Message, toMembers, toOne}
 use Rattle.rules.specs.State.{Relay, withKnown, withPending, withHolds}
 use Rattle.rules.specs.Relays.{joinAsked, leaveAsked, timerRang, requestHeard, learns, serves, getHeard, putHeard, relayHears}
 use Rattle.rules.specs.WellFormed.{isPair, isDesk, goodRequest, goodBody}
@@ -33,14 +33,14 @@ module _ (s : ℕ) (r : Relay) (h : Rel s r) (small : s < 8) where
   unfolding joinAsked
   join-kept =
       cases (GoodAnswer s) (r .entered || within (joins s) (r .known)) (λ e. refuses-well s _)
-      (λ e. does-well s r _ nothing h (sends-one s _ (request-well (joins s) (r .known) (h .known)
+      (λ e. does-well s r _ h (sends-one s _ (request-well (joins s) (r .known) (h .known)
       (true-left _ (and-eq-true-iff _ _ .1 (eq-eqb (joins s) (joins s) refl, ap not (neither-true (r .entered) (within (joins s) (r .known)) e .1)))))))
 
   pub leave-kept : GoodAnswer s (leaveAsked s r)
   unfolding leaveAsked
   leave-kept =
       cases (GoodAnswer s) (member (r .view) s)
-      (λ e. does-well s r _ nothing h (sends-one s _ (request-well (leaves s) (r .view) (h .view)
+      (λ e. does-well s r _ h (sends-one s _ (request-well (leaves s) (r .view) (h .view)
       (true-right (eqb (leaves s) (joins s) && not (within (leaves s) (r .view))) (and-eq-true-iff _ _ .1 (eq-eqb (leaves s) (leaves s) refl, e))))))
       (λ e. refuses-well s _)
 
@@ -71,13 +71,13 @@ module _ (s : ℕ) (r : Relay) (h : Rel s r) (small : s < 8) where
   request-kept : (from u c : ℕ) → from < 8 → u < 65536 → GoodAnswer s (requestHeard r from u c)
   unfolding requestHeard withPending
   request-kept from u c f l =
-      cases (GoodAnswer s) (not (r .entered)) (λ e. does-well s r [] nothing h (sends-none s))
+      cases (GoodAnswer s) (not (r .entered)) (λ e. does-well s r [] h (sends-none s))
       (λ e. cases (GoodAnswer s) (eqb (r .view) c)
-      (λ k. does-well s _ [] nothing
+      (λ k. does-well s _ []
       (cases (Rel s) (within u (r .view)) (λ z. h)
       (λ z. record { view = h .view; known = h .known; pending = or-lt 16 (r .pending) u (h .pending) l; holds = h .holds; active = h .active; entered = h .entered; generators = h .generators; different = h .different; transfers = h .transfers; apart = h .apart }))
       (sends-none s))
-      (λ k. does-well s r _ nothing h (sends-one s _ (view-well from f (not-false (r .entered) e)))))
+      (λ k. does-well s r _ h (sends-one s _ (view-well from f (not-false (r .entered) e)))))
 
   learns-good : (v : ℕ) → v < 65536 → Rel s (learns r v)
   unfolding learns withKnown
@@ -108,14 +108,14 @@ module _ (s : ℕ) (r : Relay) (h : Rel s r) (small : s < 8) where
     unfolding getHeard
     get-kept c =
         cases (GoodAnswer s) (not (serves r c)) (λ e. refuses-well s _)
-        (λ e. cases (GoodAnswer s) (inside c (r .view)) (λ k. does-well s r _ nothing h (sends-one s _ view-reply)) (λ k. does-well s r _ nothing h (sends-one s _ pair-reply)))
+        (λ e. cases (GoodAnswer s) (inside c (r .view)) (λ k. does-well s r _ h (sends-one s _ view-reply)) (λ k. does-well s r _ h (sends-one s _ pair-reply)))
 
     put-kept : (c : ℕ) (p : Pair) → isPair p ≡ true → GoodAnswer s (putHeard r from try c p)
     unfolding putHeard withHolds
     put-kept c p i =
         cases (GoodAnswer s) (not (serves r c)) (λ e. refuses-well s _)
-        (λ e. cases (GoodAnswer s) (inside c (r .view)) (λ k. does-well s r _ nothing h (sends-one s _ view-reply))
-        (λ k. does-well s _ _ nothing
+        (λ e. cases (GoodAnswer s) (inside c (r .view)) (λ k. does-well s r _ h (sends-one s _ view-reply))
+        (λ k. does-well s _ _
         (record { view = h .view; known = h .known; pending = h .pending; holds = greatest-pair (r .holds) p (h .holds) i; active = h .active; entered = h .entered; generators = h .generators; different = h .different; transfers = h .transfers; apart = h .apart })
         (sends-one s _ ack-reply)))
 
@@ -129,7 +129,7 @@ hears-kept s r from (request u c) h l g =
     request-kept s r h l from u c f (update-small from u c f (k .1 .1 .0))
 hears-kept s r from (view v) h l g =
     let k = hold-facts _ g in
-    does-well s (learns r v) [] nothing (learns-good s r h l v (ltb-true _ _ (k .1 .1 .0))) (sends-none s)
+    does-well s (learns r v) [] (learns-good s r h l v (ltb-true _ _ (k .1 .1 .0))) (sends-none s)
 hears-kept s r from (proposal v q) h l g =
     let k = hold-facts _ g in
     let m : Message = record { from = from; to = s; body = proposal v q } in
@@ -151,6 +151,6 @@ hears-kept s r from (get try c) h l g =
 hears-kept s r from (put try c p) h l g =
     let k = hold-facts _ g in
     put-kept s r h l from try (and-eq-true-iff _ _ .0 (k .1 .1 .0) .0) (ltb-true _ _ (k .0)) c p (k .1 .1 .1 .0)
-hears-kept s r from (viewReply try v) h l g = does-well s r [] nothing h (sends-none s)
-hears-kept s r from (pairReply try p) h l g = does-well s r [] nothing h (sends-none s)
-hears-kept s r from (ack try) h l g = does-well s r [] nothing h (sends-none s)
+hears-kept s r from (viewReply try v) h l g = does-well s r [] h (sends-none s)
+hears-kept s r from (pairReply try p) h l g = does-well s r [] h (sends-none s)
+hears-kept s r from (ack try) h l g = does-well s r [] h (sends-none s)

@@ -14,14 +14,14 @@ use Rattle.views.proofs.Truth.{true-right, cases}
 use Rattle.stamps.proofs.Order.{greatest-is}
 use Rattle.rules.specs.Sets.{_&&_, _||_, members, within, member, inside, none, all}
 use Rattle.rules.specs.Stamps.{Pair, greatest}
-use Rattle.rules.specs.Messages.{state, Sending, toMembers, nothing, opened, Answer, refused, does}
+use Rattle.rules.specs.Messages.{state, Sending, toMembers, opened, Answer, refused, does}
 use Rattle.rules.specs.State.{Transfer, Relay, withActive, withTransfers}
 use Rattle.rules.specs.Relays.{freshTransfer, isFor, transferFor, putTransfer, keeps, gathers, passes, moved, onward, enters, tested, early, stopped, handed, takesInstall, sentFirst, installHeard, stateHeard}
 use Rattle.rules.specs.WellFormed.{isPair, distinct, goodMove, goodInstalled, goodTransfer, otherMove, goodBody}
 use Rattle.rules.specs.Lent.{kept}
 use Rattle.rules.proofs.Hold.{hold-facts, hold-tests, all-parts, all-those, distinct-those, all-put, distinct-put}
 use Rattle.rules.proofs.Sends.{SendWell, SendsWell, sends-none, sends-one, sends-append, one-more}
-use Rattle.rules.proofs.Relays.{Rel, rel-tables, GoodAnswer, refuses-well, does-well, propose-kept}
+use Rattle.rules.proofs.Relays.{Rel, rel-tables, GoodAnswer, refuses-well, tells-well, does-well, propose-kept}
 
 pub record Tra (s : ℕ) (t : Transfer) : Type 0 where
   pub owner : member (t .new) s ≡ true
@@ -125,7 +125,7 @@ module _ (s : ℕ) (r : Relay) (h : Rel s r) (t : Transfer) (k : Tra s t) where
       let p = hold-facts _ (planned n) in
       let mv = move-facts (t .old) (t .new) (k .move) in
       cases (GoodAnswer s) (none (onward t))
-      (λ e. does-well s (moved r t true) [] (opened (t .new)) (moved-good true) (sends-none s))
+      (λ e. tells-well s (moved r t true) [] (opened (t .new)) (moved-good true) (sends-none s) (mv .small))
       (λ e. unfold moved in (propose-kept s (moved r t false) (moved-good false) (t .new) (onward t) (mv .small) (k .owner) (above-test (beyond-above (t .new) (above-fact (t .old) (t .sequence) (p .1 .0)))) e))
 
 pub tested-good : (s : ℕ) (r : Relay) → Rel s r → (t : Transfer) → Tra s t → GoodAnswer s (tested r t)
@@ -133,7 +133,7 @@ unfolding tested
 tested-good s r h t k =
     cases (GoodAnswer s) (passes t)
     (λ e. enters-good s (withTransfers r (putTransfer t (r .transfers))) kept t k (not-true _ (and-eq-true-iff _ _ .0 e .0)))
-    (λ e. does-well s _ [] nothing kept (sends-none s))
+    (λ e. does-well s _ [] kept (sends-none s))
   where
     kept : Rel s (withTransfers r (putTransfer t (r .transfers)))
     kept = unfold withTransfers in
@@ -157,7 +157,7 @@ module _ (s : ℕ) (r : Relay) (h : Rel s r) (o w : ℕ) (mv : goodMove o w ≡ 
         best = greatest-pair _ _ (k .best) i;
         gathered = or-lt 16 _ _ (k .gathered) u;
       }))
-      (λ e. does-well s r [] nothing h (sends-none s))
+      (λ e. does-well s r [] h (sends-none s))
 
   -- ---- Install
 
@@ -185,12 +185,12 @@ module _ (s : ℕ) (r : Relay) (h : Rel s r) (o w : ℕ) (mv : goodMove o w ≡ 
         best = k .best;
         gathered = k .gathered;
       }))
-      (λ e. does-well s r [] nothing h (sends-none s))
+      (λ e. does-well s r [] h (sends-none s))
 
 after-well : (s : ℕ) (first : List Sending) (a : Answer Relay) → SendsWell s first → GoodAnswer s a → GoodAnswer s (sentFirst first a)
 unfolding GoodAnswer
 after-well s first (refused x) f g = tt
-after-well s first (does r later e) f g = (g .0, sends-append s first later f (g .1))
+after-well s first (does r later e) f g = (g .0, (sends-append s first later f (g .1 .0), g .1 .1))
 
 stopped-good : (s : ℕ) (r : Relay) → Rel s r → (o w : ℕ) → Rel s (stopped s r o w)
 unfolding withActive

@@ -1,7 +1,8 @@
 -- A run of a list of steps from a start, and the printed record. Assumes nothing.
 use mathlib.Core.List.{List, [], _∷_, _++_}
-use Prim.Native.Nat.{ℕ, zero, suc, _+_, _/_, _%_}
+use Prim.Native.Nat.{ℕ, zero, suc, _+_, _*_, _/_, _%_}
 use lib.Dec.{ltb}
+use lib.ListN.{length}
 use Rattle.rules.specs.Sets.{if_then_else_}
 use Rattle.rules.specs.Messages.{Event, nothing, opened, readDone, writeDone, number}
 use Rattle.rules.specs.State.{World, start}
@@ -95,6 +96,19 @@ unfoldable pub printed : ℕ → List Step → List ℕ
 printed mask ks =
     let os = outcomes (start mask) ks in
     startOf mask ++ (stepLines 1 os ++ endOf (sum sentBy os) (sum deliveredBy os) (sum droppedBy os) (waitingIn (lastWorld (start mask) ks .places)))
+
+-- ---- how long the record of n steps can be: every column at its greatest
+
+-- of a sheet's steps, answers, events, relays, stamps and values
+abbrev pub widestStep : List ℕ
+widestStep = line (8000 ∷ 8 ∷ 3 ∷ 7 ∷ 65535 ∷ 3 ∷ 4294967295 ∷ [])
+
+-- 8,000 steps deliver or drop no more than 8,000 messages; 256 places wait
+abbrev pub widestEnd : List ℕ
+widestEnd = endOf 8256 8000 8000 256
+
+unfoldable pub longest : ℕ → ℕ
+longest n = length (startOf 255) + (n * length widestStep + length widestEnd)
 
 -- "For BAD SHEET it prints `bad 9` only."
 abbrev pub badOf : List ℕ

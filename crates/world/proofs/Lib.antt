@@ -8,5 +8,4 @@ pub mod Routes
 pub mod Begun
 pub mod Keeps
 pub mod Moves
-pub mod Lengths
 pub mod Playing

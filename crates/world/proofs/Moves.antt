@@ -1,22 +1,19 @@
--- What a step delivers and drops: one, where it is accepted and is a DELIVER, or a DROP; and a run no more than its steps. Assumes nothing.
+-- What a step delivers and drops: one, where it is accepted and is a DELIVER, or a DROP. Assumes nothing.
 use mathlib.Core.Path.{_≡_, refl}
 use mathlib.Core.Bool.{Bool, true, false, _&&_, and-eq-true-iff}
-use mathlib.Core.List.{List, [], _∷_}
-use Prim.Native.Nat.{ℕ, _+_, _-_, _≤_}
-use native.Mathlib.Omega.{arith}
+use Prim.Native.Nat.{ℕ, _+_, _-_}
 use lib.Dec.{eqb, leb, ltb}
 use lib.ListN.{length}
 use mir.Val.{boolByte}
 use borrow.Author.Tests.{eqb-true}
-use Rattle.rules.proofs.Lists.{byte-le}
 use Rattle.views.proofs.Truth.{cases}
 use Rattle.rules.specs.Messages.{Refusal, bad-world, bad-step, empty, dead, not-now, not-yet, worn, no-room, outgoing, refused, does}
 use Rattle.rules.specs.Messages as messages
 use Rattle.rules.specs.State.{Relay, Place, free, waiting, World, placeAt}
 use Rattle.rules.specs.declared.Desk.{Desk}
 use Rattle.rules.specs.declared.Step.{Step}
-use Rattle.rules.specs.Steps.{Act, is, told as tells, Report, Outcome, refusal, done, after, roomy, relayDoes, deskDoes, aliveIn, ifAlive, freed, delivers, delivery, dropping, crashing, acts, stepped}
-use Rattle.rules.specs.Runs.{outcomes, sum, deliveredBy, droppedBy, answer}
+use Rattle.rules.specs.Steps.{Act, is, told as tells, Report, Outcome, refusal, done, roomy, relayDoes, deskDoes, aliveIn, ifAlive, freed, delivers, delivery, dropping, crashing, acts, stepped}
+use Rattle.rules.specs.Runs.{deliveredBy, droppedBy, answer}
 
 pub record Moves (o : Outcome) (d x : Bool) : Type 0 where
   pub delivered : deliveredBy o ≡ boolByte (eqb (answer o) 0 && d)
@@ -90,19 +87,3 @@ module _ (w : World) (k : Step) where
       cases Told (is k 7 256) (λ e. rw (kind-of 7 256 e) (dropping-moves w (k .id) (placeAt w (k .id)))) (λ _.
       cases Told (is k 8 12) (λ e. rw (kind-of 8 12 e) (alive-moves w (k .id) _ false false (crashing-moves w (k .id)))) (λ _.
       refusal-moves bad-step (eqb (k .kind) 6) (eqb (k .kind) 7)))))))))
-
-  pub moves-one : (deliveredBy (stepped w k) ≤ 1) × (droppedBy (stepped w k) ≤ 1)
-  moves-one = (rw (step-moves .delivered) (byte-le (eqb (answer (stepped w k)) 0 && eqb (k .kind) 6)), rw (step-moves .dropped) (byte-le (eqb (answer (stepped w k)) 0 && eqb (k .kind) 7)))
-
--- of a run no more than its steps
-sum-few : (f : Outcome → ℕ) → ((w : World) (k : Step) → f (stepped w k) ≤ 1) → (W : World) (ks : List Step) → sum f (outcomes W ks) ≤ length ks
-unfolding sum outcomes
-sum-few f one W [] = omega arith
-sum-few f one W (k ∷ ks) = omega (arith, one W k, sum-few f one (after W (stepped W k)) ks)
-
-module _ (W : World) (ks : List Step) where
-  pub few-delivered : sum deliveredBy (outcomes W ks) ≤ length ks
-  few-delivered = sum-few deliveredBy (λ w k. moves-one w k .0) W ks
-
-  pub few-dropped : sum droppedBy (outcomes W ks) ≤ length ks
-  few-dropped = sum-few droppedBy (λ w k. moves-one w k .1) W ks

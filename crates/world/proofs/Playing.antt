@@ -1,32 +1,34 @@
 -- A run, step by step: what the lines, the counts and the world are after each of its steps, and at its end. Assumes nothing.
-use mathlib.Core.Path.{_≡_, refl, sym, ap, subst, _∙_}
-use mathlib.Core.Bool.{true, false, _&&_}
+use mathlib.Core.Path.{_≡_, refl, sym, ap, _∙_}
+use mathlib.Core.Bool.{Bool, true, false, _&&_}
 use mathlib.Core.List.{List, [], _∷_, _++_, append-assoc}
-use Prim.Native.Nat.{ℕ, suc, _+_, _-_, _≤_, _<_}
+use Prim.Native.Nat.{ℕ, suc, _+_, _*_, _-_, _≤_, _<_}
 use native.Mathlib.Numerals.{add-one}
 use native.Mathlib.Omega.{arith}
-use lib.Dec.{eqb}
+use lib.Dec.{eqb, ltb}
 use lib.ListN.{length, getD, drop}
 use mir.Val.{boolByte}
-use borrow.Author.Tests.{eq-eqb, ne-eqb, lt-leb}
-use Rattle.rules.specs.State.{Place, free, waiting, World, start}
+use borrow.Author.Tests.{eq-eqb, ne-eqb, lt-leb, lt-ltb, le-ltb}
+use Rattle.rules.specs.Sets.{if_then_else_}
+use Rattle.rules.specs.State.{World, start}
 use Rattle.rules.specs.declared.Step.{Step}
-use Rattle.rules.specs.Sending.{freeIn, waitingIn}
+use Rattle.rules.specs.Sending.{waitingIn}
 use Rattle.rules.specs.Steps.{Outcome, refusal, done, after, report, stepped}
 use Rattle.rules.specs.WellFormed.{wellFormed}
 use Rattle.rules.specs.Image.{image, worldAt, goodBytes}
 use Rattle.rules.specs.Lent.{Lent, left, lentStep, lentStart}
-use Rattle.rules.specs.Sheets.{bad, sheet, sheetIn, badSheet, stepsIn}
-use Rattle.rules.specs.Runs.{outcomes, lastWorld, sum, deliveredBy, droppedBy, answer, fields, stepLine, stepLines, printed, rehearsed, startOf, endOf, badOf}
-use Rattle.rules.proofs.Counts.{sent-is-sum}
+use Rattle.rules.specs.Sheets.{Sheet, bad, sheet, sheetIn, badSheet, stepsIn, stepsOf}
+use Rattle.rules.specs.Runs.{outcomes, lastWorld, sum, deliveredBy, droppedBy, answer, fields, digits, line, stepLine, stepLines, longest, printed, startOf, endOf, badOf, rehearsal, rehearsed}
+use Rattle.rules.proofs.Counts.{places-all, run-few, sent-is-sum}
 use Rattle.rules.proofs.Starts.{start-good}
 use Rattle.rules.proofs.Kept.{step-keeps, always-good}
+use Rattle.rules.proofs.Longest.{longest-is, printed-longest}
 use Rattle.rules.proofs.ImageWorld.{world-fits, world-back, image-good, good-formed, good-image}
 use Rattle.sheet.specs.declared.Sheet as checked
 use Rattle.sheet.specs.Reading.{checkOf, readOf, stepsFrom}
 use Rattle.sheet.proofs.Walk.{check-reads, accepted, count, sound, front}
 use Rattle.record.specs.Lines.{laid, past, far, stepOf}
-use Rattle.record.proofs.Laying.{laid-length, printed-first, printed-then, printed-as, Printing, printing-none, printing-more, printing-all}
+use Rattle.record.proofs.Laying.{laid-whole, printed-first, printed-then, printed-as, Printing, printing-none, printing-more, printing-all}
 use Rattle.record.proofs.Whole.{printed-is, step-line-is}
 use Rattle.world.specs.declared.Answer.{Answer}
 use Rattle.world.specs.declared.run.Columns.{Columns}
@@ -34,10 +36,9 @@ use Rattle.world.specs.declared.run.Tally.{Tally}
 use Rattle.world.specs.declared.run.Rehearsed.{Rehearsed}
 use Rattle.world.specs.Answer.{reportOf, lentOf}
 use Rattle.world.specs.Commits.{freeRows}
-use Rattle.world.specs.Playing.{columnsOf, Stepped, Ran, fittedOf, rehearseAnswer, ranIn, worldLeft, recordLeft}
+use Rattle.world.specs.Playing.{columnsOf, Stepped, Ran, Ruling, bad-world, bad-sheet, no-room, runs, roomFor, ruled, answerBy, laidBy, worldBy, rehearseAnswer, worldLeft, recordLeft}
 use Rattle.world.proofs.Places.{free-rows}
-use Rattle.world.proofs.Moves.{step-moves, few-delivered, few-dropped}
-use Rattle.world.proofs.Lengths.{rehearsed-long}
+use Rattle.world.proofs.Moves.{step-moves}
 
 -- ---- one step's answer and buffer
 
@@ -113,7 +114,7 @@ module _ (W : World) (k : Step) (ks : List Step) where
 
 module _ {W : World} {ks : List Step} {l : List ℕ} {o : ℕ} {w out : List ℕ} {p d x number : ℕ} {rest : List Step} (h : Running W ks l o w out p d x number rest) where
   pub few : (d ≤ length ks) × (x ≤ length ks)
-  few = (omega (arith, h .delivered, few-delivered W ks), omega (arith, h .dropped, few-dropped W ks))
+  few = (omega (arith, h .delivered, run-few W ks), omega (arith, h .dropped, run-few W ks))
 
   pub running-more : (k : Step) (later : List Step) (w' out' : List ℕ) (r : Tally) → rest ≡ k ∷ later → Stepped (worldAt w) k number p out w' out' r
       → Running W ks l o w' out' (r .at) (d + r .delivered) (x + r .dropped) (number + 1) later
@@ -146,12 +147,6 @@ module _ {W : World} {ks : List Step} {l : List ℕ} {o : ℕ} {w out : List ℕ
       }
 
 -- ---- the end
-
-pub places-all : (ps : List Place) → freeIn ps + waitingIn ps ≡ length ps
-unfolding freeIn waitingIn
-places-all [] = refl
-places-all (free ∷ ps) = omega (arith, places-all ps)
-places-all (waiting m ∷ ps) = omega (arith, places-all ps)
 
 pub waiting-rows : (W : World) (w : List ℕ) → wellFormed W ≡ true → w ≡ image W → 256 - freeRows w 256 ≡ waitingIn (W .places)
 waiting-rows W w formed e =
@@ -224,39 +219,124 @@ module _ (b : List ℕ) (s : checked.Sheet) (e : s ≡ checkOf b) where
       let a = accepted b (s .mask) (stepsFrom b 6) (found-good t) in
       (a .good, sym (a .masked))
 
+  steps-long : s .bad ≡ false → length (stepsFrom b 6) ≡ s .steps
+  unfolding checkOf
+  steps-long t =
+      let a = accepted b (s .mask) (stepsFrom b 6) (found-good t) in
+      let steps : s .steps ≡ stepsOf b = rw (a .good) at (ap (λ (x : checked.Sheet). x .steps) e) in
+      sym (count b (s .mask) (stepsFrom b 6) a) ∙ sym steps
+
+  pub few-found : s .bad ≡ false → s .steps ≤ 8000
+  few-found t = omega (arith, steps-long t, shown-few b (found-facts t .0))
+
 -- ---- what is answered and left
+
+bad-long : length badOf ≡ 6
+unfolding line digits
+bad-long = refl
+
+-- `bad 9` is there whole, or not at all
+module _ (out : List ℕ) where
+  pub bad-short : length out < 6 → (record { answer = 9; length = 0 } ≡ answerBy out bad-sheet) × (out ≡ laidBy out bad-sheet)
+  unfolding answerBy laidBy
+  bad-short h = let e = lt-ltb (length out) (length badOf) (rw bad-long h) in (rw e, rw e)
+
+  pub bad-laid : 6 ≤ length out → (n : ℕ) (out' : List ℕ) → (n ≡ past 0 badOf) × (out' ≡ laid out 0 badOf)
+      → (record { answer = 9; length = n } ≡ answerBy out bad-sheet) × (out' ≡ laidBy out bad-sheet)
+  unfolding answerBy laidBy
+  bad-laid h n out' put =
+      let e = le-ltb (length out) (length badOf) (rw bad-long h) in
+      let exact : n ≡ length badOf = omega (arith, put .0, bad-long) in
+      (rw (e, exact), rw e (put .1 ∙ laid-whole out badOf (rw bad-long h)))
 
 module _ (b w out : List ℕ) where
   abbrev Left : Rehearsed → List ℕ → List ℕ → Type 0
-  Left r w' out' = (r ≡ rehearseAnswer b w out) × ((w' ≡ worldLeft b w) × (out' ≡ recordLeft b w out))
+  Left r w' out' = (r ≡ rehearseAnswer b w out) × ((w' ≡ worldLeft b w out) × (out' ≡ recordLeft b w out))
+
+  -- what comes of the ruling comes of the call
+  left-by : (x : Ruling) → ruled b w out ≡ x → (r : Rehearsed) (w' out' : List ℕ) → r ≡ answerBy out x → w' ≡ worldBy w x → out' ≡ laidBy out x → Left r w' out'
+  unfolding rehearseAnswer worldLeft recordLeft
+  left-by x e r w' out' f g h = (rw e f, (rw e g, rw e h))
+
+  run-answered : (mask : ℕ) (ks : List Step) (n : ℕ) → n ≡ length (printed mask ks) → record { answer = 0; length = n } ≡ answerBy out (runs mask ks)
+  unfolding answerBy
+  run-answered mask ks n e = rw e
 
   pub misfit : (length w ≡ 65536 → ⊥) → Left (record { answer = 1; length = 0 }) w out
-  unfolding rehearseAnswer worldLeft recordLeft
-  misfit h =
-      let e = ne-eqb (length w) 65536 h in
-      (rw e, (rw e, rw e))
+  misfit h = left-by bad-world (unfold ruled in rw (ne-eqb (length w) 65536 h)) _ _ _ (unfold answerBy in refl) refl (unfold laidBy in refl)
 
-  fit : (r : Rehearsed) (w' out' : List ℕ) (n : ℕ) → length w ≡ 65536 → w' ≡ ranIn w (sheetIn b) → (n ≡ past 0 (rehearsed b)) × (out' ≡ laid out 0 (rehearsed b)) → r ≡ fittedOf (length out') n → Left r w' out'
-  unfolding rehearseAnswer worldLeft recordLeft
-  fit r w' out' n long ran put e =
-      let t = eq-eqb (length w) 65536 long in
-      let exact : n ≡ length (rehearsed b) = omega (arith, put .0, rehearsed-long b) in
-      let room : length out' ≡ length out = ap length (put .1) ∙ laid-length out 0 (rehearsed b) in
-      (rw t (rw (room, exact) at e), (rw t ran, rw t (put .1)))
+  module _ (long : length w ≡ 65536) (s : checked.Sheet) (e : s ≡ checkOf b) where
+    ruled-by : (x : Sheet) → sheetIn b ≡ x → ruled b w out ≡ roomFor (length out) x
+    unfolding ruled
+    ruled-by x f = rw (eq-eqb (length w) 65536 long, f)
 
-  module _ (s : checked.Sheet) (e : s ≡ checkOf b) (r : Rehearsed) (w' out' : List ℕ) (n : ℕ) (long : length w ≡ 65536) (a : r ≡ fittedOf (length out') n) where
-    pub left-bad : s .bad ≡ true → (n ≡ past 0 badOf) × (out' ≡ laid out 0 badOf) → Left r w out'
-    unfolding rehearsed
-    left-bad t put =
-        let f = found-bad b s e t in
-        let same : badOf ≡ rehearsed b = rw f in
-        fit r w out' n long (rw f) (subst (λ (x : List ℕ). (n ≡ past 0 x) × (out' ≡ laid out 0 x)) same put) a
+    pub left-bad : s .bad ≡ true → (r : Rehearsed) (out' : List ℕ) → (r ≡ answerBy out bad-sheet) × (out' ≡ laidBy out bad-sheet) → Left r w out'
+    left-bad t r out' h = left-by bad-sheet (ruled-by bad (found-bad b s e t)) r w out' (h .0) refl (h .1)
 
-    pub left-good : s .bad ≡ false
-        → (n ≡ past 0 (printed (s .mask) (stepsFrom b 6))) × ((out' ≡ laid out 0 (printed (s .mask) (stepsFrom b 6))) × (w' ≡ image (lastWorld (start (s .mask)) (stepsFrom b 6))))
-        → Left r w' out'
-    unfolding rehearsed
-    left-good t put =
-        let f = found-good b s e t in
-        let same : printed (s .mask) (stepsFrom b 6) ≡ rehearsed b = rw f in
-        fit r w' out' n long (rw f (put .1 .1)) (rw same at (put .0), rw same at (put .1 .0)) a
+    module _ (t : s .bad ≡ false) where
+      abbrev ks : List Step
+      ks = stepsFrom b 6
+
+      ruled-good : ruled b w out ≡ (if ltb (length out) (longest (length ks)) then no-room else runs (s .mask) ks)
+      ruled-good = ruled-by (sheet (s .mask) ks) (found-good b s e t)
+
+      room-is : longest (length ks) ≡ 33 + 30 * s .steps
+      room-is = longest-is (length ks) ∙ ap (λ (n : ℕ). 33 + 30 * n) (steps-long b s e t)
+
+      pub left-full : length out < 33 + 30 * s .steps → Left (record { answer = 8; length = 0 }) w out
+      left-full l =
+          let short = lt-ltb (length out) (longest (length ks)) (rw room-is l) in
+          left-by no-room (ruled-good ∙ ap (λ (x : Bool). if x then no-room else runs (s .mask) ks) short) _ _ _
+          (unfold answerBy in refl) refl (unfold laidBy in refl)
+
+      pub left-good : 33 + 30 * s .steps ≤ length out → s .mask < 256 → (w' out' : List ℕ) (n : ℕ)
+          → (n ≡ past 0 (printed (s .mask) ks)) × ((out' ≡ laid out 0 (printed (s .mask) ks)) × (w' ≡ image (lastWorld (start (s .mask)) ks)))
+          → Left (record { answer = 0; length = n }) w' out'
+      left-good l small w' out' n put =
+          let f = found-facts b s e t in
+          let most = shown-few b (f .0) in
+          let fits = printed-longest (s .mask) (omega (arith, some b (s .mask) (f .0) (f .1) small)) small ks most in
+          let roomy = le-ltb (length out) (longest (length ks)) (rw room-is l) in
+          let exact : n ≡ length (printed (s .mask) ks) = omega (arith, put .0, fits, longest-is (length ks), most) in
+          let front = laid-whole out (printed (s .mask) ks) (omega (arith, fits, room-is, l)) in
+          left-by (runs (s .mask) ks) (ruled-good ∙ ap (λ (x : Bool). if x then no-room else runs (s .mask) ks) roomy) _ w' out'
+          (run-answered (s .mask) ks n exact) (put .1 .1) (unfold laidBy in (put .1 .0 ∙ front))
+
+-- ---- a buffer that takes the longest record of 8,000 steps takes the record of every sheet, whole
+
+module _ (b w out : List ℕ) (long : length w ≡ 65536) (wide : longest 8000 ≤ length out) where
+  abbrev Whole : Sheet → Type 0
+  Whole x =
+      (answerBy out (roomFor (length out) x) .length ≡ length (rehearsal x))
+      × (laidBy out (roomFor (length out) x) ≡ rehearsal x ++ drop (length (rehearsal x)) out)
+
+  whole-sheet : (x : Sheet) → sheetIn b ≡ x → Whole x
+  unfolding answerBy laidBy
+  whole-sheet bad e = let room = le-ltb (length out) (length badOf) (omega (arith, wide, bad-long, longest-is 8000)) in (rw room, rw room)
+  whole-sheet (sheet mask ks) e =
+      let a = accepted b mask ks e in
+      let few : length ks ≤ 8000 = omega (arith, count b mask ks a, sound b (a .good) .few) in
+      let room = le-ltb (length out) (longest (length ks)) (omega (arith, wide, longest-is (length ks), longest-is 8000, few)) in
+      (rw room, rw room)
+
+  pub whole-record : (rehearseAnswer b w out .length ≡ length (rehearsed b)) × (recordLeft b w out ≡ rehearsed b ++ drop (length (rehearsed b)) out)
+  unfolding rehearseAnswer recordLeft ruled rehearsed
+  whole-record = rw (eq-eqb (length w) 65536 long) (whole-sheet (sheetIn b) refl)
+
+-- ---- of a sheet of bytes, whatever comes of it, the length that is answered is at most that of the longest record
+
+pub answer-long : (b w out : List ℕ) → getD b 5 0 < 256 → rehearseAnswer b w out .length ≤ longest 8000
+unfolding rehearseAnswer answerBy ruled
+answer-long b w out byte = cases Short (eqb (length w) 65536) (λ _. of-sheet (sheetIn b) refl) (λ _. omega arith)
+  where
+    Short : Ruling → Type 0
+    Short x = length (recordBy (length out) x) ≤ longest 8000
+
+    of-sheet : (x : Sheet) → sheetIn b ≡ x → Short (roomFor (length out) x)
+    of-sheet bad e = cases (λ (l : List ℕ). length l ≤ longest 8000) (ltb (length out) (length badOf)) (λ _. omega arith) (λ _. omega (arith, bad-long, longest-is 8000))
+    of-sheet (sheet mask ks) e =
+        let a = accepted b mask ks e in
+        let few : length ks ≤ 8000 = omega (arith, count b mask ks a, sound b (a .good) .few) in
+        let some : 0 < mask = omega (arith, sound b (a .good) .some, a .masked) in
+        let fits = printed-longest mask some (omega (arith, a .masked)) ks few in
+        cases Short (ltb (length out) (longest (length ks))) (λ _. omega arith) (λ _. omega (arith, fits, longest-is (length ks), longest-is 8000))

@@ -13,7 +13,7 @@ ghost use Rattle.rules.specs.Runs.{fields, lastWorld, printed, endOf};
 ghost use Rattle.sheet.specs.Reading.{stepsFrom};
 ghost use Rattle.record.specs.Lines.{laid, past};
 ghost use Rattle.world.specs.Answer.{reportOf};
-ghost use Rattle.world.specs.Playing.{columnsOf, Stepped, Ran, fittedOf, rehearseAnswer, worldLeft, recordLeft};
+ghost use Rattle.world.specs.Playing.{columnsOf, Stepped, Ran, bad-sheet, answerBy, laidBy, rehearseAnswer, worldLeft, recordLeft};
 use super::Answer;
 use super::Report;
 use rules::Step;
@@ -166,31 +166,45 @@ fn play(sheet: &[u8], mask: u8, w: &mut [u8], out: &mut [u8]) -> usize
     put_totals(w, out, t)
 }
 
+// The answer, and how many bytes of a record stand in the buffer for it.
 pub struct Rehearsed {
     pub answer: u8,
     pub length: usize,
 }
 
-// NO ROOM where the record is longer than its buffer.
-fn fitted(length: usize, room: usize) -> Rehearsed
-    ensures { λ r. ⌜ r ≡ fittedOf room length ⌝ }
+// The longest start and end of a record, and the longest line of a step.
+const ENDS: usize = 33;
+
+const LINE: usize = 30;
+
+// The longest record: that of 8,000 steps.
+pub const LONGEST: usize = 240033;
+
+// `bad 9`, and the newline.
+const BAD: usize = 6;
+
+// "For BAD SHEET it prints `bad 9` only": whole, or not at all.
+fn refuse_sheet(out: &mut [u8]) -> Rehearsed
+    ensures answer { λ r. ⌜ r ≡ answerBy (now (out .entry)) bad-sheet ⌝ }
+    ensures bytes { λ _. ⌜ now (out .exit) ≡ laidBy (now (out .entry)) bad-sheet ⌝ }
 {
-    if room < length {
+    if out.len() < BAD {
         return Rehearsed {
-            answer: rules::NO_ROOM,
-            length: length,
+            answer: rules::BAD_SHEET,
+            length: 0,
         };
     }
+    let length = record::put_bad(out);
     Rehearsed {
-        answer: 0,
+        answer: rules::BAD_SHEET,
         length: length,
     }
 }
 
-// What `rehearse` prints for a sheet, as much of it as fits, and the last world. BAD WORLD where that buffer has another length.
+// What `rehearse` prints for a sheet, and the last world. Whether there is room is decided before anything is done.
 pub fn rehearse(sheet: &[u8], world: &mut [u8], out: &mut [u8]) -> Rehearsed
     ensures answer { λ r. ⌜ r ≡ rehearseAnswer (now (sheet .entry)) (now (world .entry)) (now (out .entry)) ⌝ }
-    ensures last { λ _. ⌜ now (world .exit) ≡ worldLeft (now (sheet .entry)) (now (world .entry)) ⌝ }
+    ensures last { λ _. ⌜ now (world .exit) ≡ worldLeft (now (sheet .entry)) (now (world .entry)) (now (out .entry)) ⌝ }
     ensures printed { λ _. ⌜ now (out .exit) ≡ recordLeft (now (sheet .entry)) (now (world .entry)) (now (out .entry)) ⌝ }
 {
     if world.len() != image::SIZE {
@@ -201,9 +215,17 @@ pub fn rehearse(sheet: &[u8], world: &mut [u8], out: &mut [u8]) -> Rehearsed
     }
     let s = sheet::check(sheet);
     if s.bad {
-        let short = record::put_bad(out);
-        return fitted(short, out.len());
+        return refuse_sheet(out);
+    }
+    if out.len() < ENDS + LINE * s.steps {
+        return Rehearsed {
+            answer: rules::NO_ROOM,
+            length: 0,
+        };
     }
     let length = play(sheet, s.mask, world, out);
-    fitted(length, out.len())
+    Rehearsed {
+        answer: 0,
+        length: length,
+    }
 }

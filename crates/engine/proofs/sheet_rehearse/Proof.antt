@@ -1,9 +1,13 @@
 -- `engine::sheet_rehearse` meets its contract. Assumes nothing.
 use mathlib.Core.Path.{ap}
 use native.Mathlib.Omega.{arith}
+use lib.ListN.{getD}
+use mir.Syntax.{w8}
+use mir.Val.{Fits}
 use borrow.Author.Needs.{needs}
 use Rattle.world.specs.declared.run.Rehearsed.{Rehearsed}
-use Rattle.world.proofs.Lengths.{answer-long}
+use Rattle.rules.proofs.Longest.{longest-is}
+use Rattle.world.proofs.Playing.{answer-long}
 use Rattle.engine.proofs.Telling.{short-length, turned-away, rehearsed}
 use Rattle.engine.proofs.sheet_rehearse.Statement.{statement}
 use Rattle.engine.proofs.sheet_rehearse.Tie as tie
@@ -23,7 +27,8 @@ cast-put-length : tie.Need-cast-put-length
 cast-put-length c =
     let ran = c .before .before .before .before .before .before .before .before in
     let a = ran .before .before .before .before .before .before .before .before .args in
-    omega (arith, answer-long (a .sheet .now) (a .world .now) (a .out .now), ap (λ (r : Rehearsed). r .length) (ran .rehearse .ensures .0))
+    let byte : Fits w8 (getD (a .sheet .now) 5 0) = search needs in
+    omega (arith, answer-long (a .sheet .now) (a .world .now) (a .out .now) (byte .fits), longest-is 8000, ap (λ (r : Rehearsed). r .length) (ran .rehearse .ensures .0))
 
 returns-3 : tie.Need-returns-3
 returns-3 c =

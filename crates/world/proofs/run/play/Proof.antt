@@ -4,9 +4,9 @@ use native.Mathlib.Omega.{arith}
 use lib.ListN.{length}
 use borrow.Author.Needs.{needs}
 use Rattle.rules.specs.Image.{worldAt}
+use Rattle.rules.proofs.Counts.{run-few}
 use Rattle.sheet.specs.Reading.{stepsFrom}
 use Rattle.record.specs.Lines.{far}
-use Rattle.world.proofs.Moves.{few-delivered, few-dropped}
 use Rattle.world.proofs.Playing.{shown-few, started, played}
 use Rattle.world.proofs.run.play.Statement.{statement}
 use Rattle.world.proofs.run.play.Tie as tie
@@ -34,8 +34,8 @@ put-totals-requires c κs =
     let b = s .args .sheet .now in
     let v = worldAt (began .start .last .0) in
     let most = shown-few b (s .pre .1 .0) in (
-      omega (arith, ran .turns .ensures .delivered, few-delivered v (stepsFrom b 6), most),
-      omega (arith, ran .turns .ensures .dropped, few-dropped v (stepsFrom b 6), most),
+      omega (arith, ran .turns .ensures .delivered, run-few v (stepsFrom b 6), most),
+      omega (arith, ran .turns .ensures .dropped, run-few v (stepsFrom b 6), most),
     )
 
 returns : tie.Need-returns

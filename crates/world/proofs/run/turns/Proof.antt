@@ -6,10 +6,10 @@ use native.Mathlib.Omega.{arith}
 use lib.ListN.{length}
 use borrow.Author.Needs.{needs}
 use Rattle.rules.specs.Image.{worldAt}
+use Rattle.rules.proofs.Counts.{step-even}
 use Rattle.rules.proofs.ImageWorld.{good-length}
 use Rattle.sheet.specs.Reading.{stepsFrom}
 use Rattle.sheet.proofs.Walk.{taken-step, taken-end}
-use Rattle.world.proofs.Moves.{moves-one}
 use Rattle.world.proofs.Playing.{Running, running-none, running-more, running-all, few, shown-few}
 use Rattle.world.proofs.run.turns.Statement.{statement}
 use Rattle.world.proofs.run.turns.Tie as tie
@@ -56,14 +56,14 @@ add-delivered : tie.Need-add-delivered Inv-loop μ-loop
 add-delivered c =
     let done = c .before .before .before .before .before in
     let l = done .before .before .before .before .before .before .before in
-    let one = moves-one (worldAt (l .loop .w)) (done .before .before .before .before .found .given .0 .0) .0 in
+    let one = step-even (worldAt (l .loop .w)) (done .before .before .before .before .found .given .0 .0) .one in
     omega (arith, few (l .loop .inv) .0, few-steps l, done .turn .ensures .delivered, one)
 
 add-dropped : tie.Need-add-dropped Inv-loop μ-loop
 add-dropped c =
     let done = c .before .before .before .before .before .before in
     let l = done .before .before .before .before .before .before .before in
-    let one = moves-one (worldAt (l .loop .w)) (done .before .before .before .before .found .given .0 .0) .1 in
+    let one = step-even (worldAt (l .loop .w)) (done .before .before .before .before .found .given .0 .0) .one in
     omega (arith, few (l .loop .inv) .1, few-steps l, done .turn .ensures .dropped, one)
 
 add-number : tie.Need-add-number Inv-loop μ-loop
