@@ -16,3 +16,4 @@ pub mod RuledOutWorld
 -- refusing everything, one constant reply, no work at all, show after the first step; invented totals
 pub mod EndLine
 pub mod Demand2
+pub mod Demands

@@ -1,0 +1,448 @@
+-- DEMANDS 1 and 2 (specs/Demand1, specs/Demand2), proved of every program that keeps the promises of the sources: `demand1`, `demand2`. (Demand 3 is
+-- `Safety.safety`, in crates/safety.) Assumes nothing.
+use mathlib.Core.Path.{_≡_, refl, sym, ap, subst, _∙_}
+use mathlib.Core.Bool.{Bool, true, false, not}
+use mathlib.Core.List.{List, [], _∷_, _++_, map}
+use Prim.Native.Nat.{ℕ, zero, suc, _+_, _*_, _≤_, _<_}
+use native.Mathlib.Omega.{arith}
+use lib.Dec.{eqb, leb, ltb, lit≤}
+use lib.ListN.{length, getD, take, drop}
+use borrow.Author.Tests.{leb-false, ltb-true, ltb-false, eqb-false, lt-ltb, le-ltb}
+use Rattle.views.proofs.Truth.{contrary}
+use Rattle.rules.specs.Sets.{_||_, if_then_else_}
+use Rattle.rules.specs.Messages.{bad-step, number}
+use Rattle.rules.specs.Messages as refusals
+use Rattle.rules.specs.State.{World, start}
+use Rattle.rules.specs.declared.Step.{Step}
+use Rattle.rules.specs.Steps.{Outcome, refusal, done, noReport, after, report, stepped}
+use Rattle.rules.specs.Table.{firstOf, table}
+use Rattle.rules.specs.WellFormed.{wellFormed}
+use Rattle.rules.specs.Image.{image, worldAt, goodBytes}
+use Rattle.rules.specs.Lent.{Lent, kept, left, lentStep, lentStart}
+use Rattle.rules.specs.Sheets.{Written, wrote, written, Sheet, sheet, bad, badSheet, stepsOf, stepsIn, sheetIn, sheetBytes}
+use Rattle.rules.specs.Sheets as sheets
+use Rattle.rules.specs.Runs.{outcomes, lastWorld, answer, printed, longest, badOf}
+use Rattle.rules.proofs.Refusals.{number-range, every-answer}
+use Rattle.rules.proofs.Order.{first-applies}
+use Rattle.rules.proofs.Starts.{start-good}
+use Rattle.rules.proofs.ImageWorld.{world-back, image-good, good-formed, good-image}
+use Rattle.sheet.specs.declared.Sheet as checked
+use Rattle.sheet.specs.declared.Found.{Found}
+use Rattle.sheet.specs.declared.Found.the-variants.{At, End}
+use Rattle.sheet.specs.declared.reader.Taken.{Taken}
+use Rattle.sheet.specs.Reading.{checkOf, takenAt, stepsFrom}
+use Rattle.sheet.specs.Writing.{listed, kindsOf, idsOf, valuesOf, unequal, ruled, bufferOf, numberOf}
+use Rattle.sheet.proofs.Walk.{accepted, Accepted, count, sound, front, taken-step, taken-end}
+use Rattle.sheet.proofs.Writing as writing
+use Rattle.sheet.proofs.Slices.{sliced, ruled-list}
+use Rattle.sheet.proofs.Back.{again, back, smalls}
+use Rattle.world.specs.declared.Answer.{Answer}
+use Rattle.world.specs.declared.run.Rehearsed.{Rehearsed}
+use Rattle.world.specs.Answer.{lentOf, columns, reportOf}
+use Rattle.world.specs.Playing.{Ruling, bad-world, bad-sheet, no-room, runs, roomFor, answerBy, laidBy, worldBy, rehearseAnswer, worldLeft, recordLeft}
+use Rattle.world.specs.Playing.{ruled as ruledSheet, numberOf as numberBy}
+use Rattle.certificate.specs.Code.{Code, Promised}
+use Rattle.certificate.specs.Demand1.{Rows, BAD-SHEET, stepRows, startRows, checkRows, writeRows, rehearseRows, Numbered, badLaid, checkNumber, Demand1, Demand1ForAll}
+use Rattle.certificate.specs.Demand2.{ranBy, toldBy, before, readFrom, readBy, Below, Demand2, Demand2ForAll}
+use Rattle.certificate.specs.Demand2.{ruled as ruledLine}
+use Rattle.certificate.proofs.Demand2.{Program, ran, told, each-step}
+
+-- what demand 1 says of what is left of a world's buffer
+record Said (w : List ℕ) (rows : Rows) (l : Lent) : Type 0 where
+  first : l .answer ≡ firstOf rows
+  known : l .answer ≤ 9
+  refused : 0 < l .answer → (l .buffer ≡ w) × (l .report ≡ noReport)
+
+-- ---- a step on any bytes
+
+module _ (w : List ℕ) where
+  left-answer : (o : Outcome) → left w o .answer ≡ answer o
+  left-answer (refusal x) = refl
+  left-answer (done next e a b c) = refl
+
+  left-kept : (o : Outcome) → 0 < left w o .answer → (left w o .buffer ≡ w) × (left w o .report ≡ noReport)
+  left-kept (refusal x) h = (refl, refl)
+  left-kept (done next e a b c) h = absurd (omega arith)
+
+  left-done : (v : World) (o : Outcome) → left w o .answer ≡ 0 → (left w o .buffer ≡ image (after v o)) × (left w o .report ≡ report o)
+  left-done v (refusal x) h = absurd (omega (arith, number-range x .0, h))
+  left-done v (done next e a b c) h = (refl, refl)
+
+  module _ (k : Step) where
+    abbrev o : Outcome
+    o = stepped (worldAt w) k
+
+    -- of good bytes, and of any others
+    abbrev stepLeft : Bool → Lent
+    stepLeft b = if b then left w o else kept refusals.bad-world w
+
+    step-said : Said w (stepRows w k) (lentStep w k)
+    unfolding lentStep
+    step-said = go (goodBytes w) refl
+      where
+        go : (b : Bool) → goodBytes w ≡ b → Said w ((not b, number refusals.bad-world) ∷ table (worldAt w) k) (stepLeft b)
+        go true e =
+            record {
+              first = left-answer o ∙ first-applies (worldAt w) (good-formed w e) k;
+              known = omega (arith, left-answer o, every-answer (worldAt w) k);
+              refused = λ h. left-kept o h;
+            }
+        go false e = record { first = refl; known = lit≤ tt; refused = λ h. (refl, refl) }
+
+    step-accepted : lentStep w k .answer ≡ 0 → (goodBytes w ≡ true) × (lentStep w k .buffer ≡ image (after (worldAt w) o)) × (lentStep w k .report ≡ report o)
+    unfolding lentStep
+    step-accepted = go (goodBytes w) refl
+      where
+        go : (b : Bool) → goodBytes w ≡ b → stepLeft b .answer ≡ 0 → (goodBytes w ≡ true) × (stepLeft b .buffer ≡ image (after (worldAt w) o)) × (stepLeft b .report ≡ report o)
+        go true e h = let d = left-done (worldAt w) o h in (e, d .0, d .1)
+        go false e h = absurd (omega (arith, h))
+
+-- ---- a start in any buffer
+
+module _ (w : List ℕ) (mask : ℕ) where
+  -- by its length, and by the mask: 0, above 255
+  abbrev startLeft : Bool → Bool → Bool → Lent
+  startLeft long none big =
+      if long then (if none then kept bad-step w else if big then kept bad-step w else record { answer = 0; report = noReport; buffer = image (start mask) }) else kept refusals.bad-world w
+
+  start-said : Said w (startRows w mask) (lentStart w mask)
+  unfolding lentStart
+  start-said = go (eqb (length w) 65536) (eqb mask 0) (leb 256 mask)
+    where
+      go : (a b c : Bool) → Said w ((not a, number refusals.bad-world) ∷ (b || c, number bad-step) ∷ []) (startLeft a b c)
+      go true true c = record { first = refl; known = lit≤ tt; refused = λ h. (refl, refl) }
+      go true false true = record { first = refl; known = lit≤ tt; refused = λ h. (refl, refl) }
+      go true false false = record { first = refl; known = lit≤ tt; refused = λ h. absurd (omega arith) }
+      go false b c = record { first = refl; known = lit≤ tt; refused = λ h. (refl, refl) }
+
+  start-accepted : lentStart w mask .answer ≡ 0 → (0 < mask) × (mask < 256) × (lentStart w mask .buffer ≡ image (start mask))
+  unfolding lentStart
+  start-accepted = go (eqb (length w) 65536) (eqb mask 0) (leb 256 mask) refl refl
+    where
+      go : (a b c : Bool) → eqb mask 0 ≡ b → leb 256 mask ≡ c → startLeft a b c .answer ≡ 0 → (0 < mask) × (mask < 256) × (startLeft a b c .buffer ≡ image (start mask))
+      go true true c e f h = absurd (omega (arith, h))
+      go true false true e f h = absurd (omega (arith, h))
+      go true false false e f h = let n = eqb-false mask 0 e in (omega (arith, n), leb-false 256 mask f, refl)
+      go false b c e f h = absurd (omega (arith, h))
+
+-- ---- sheets: checked, read step by step, written
+
+module _ (b : List ℕ) where
+  abbrev checkedBy : Bool → checked.Sheet
+  checkedBy x = if x then record { bad = true; mask = 0; steps = 0 } else record { bad = false; mask = getD b 5 0; steps = stepsOf b }
+
+  check-numbered : Numbered (checkNumber (checkOf b)) (checkRows b)
+  unfolding checkOf
+  check-numbered = go (badSheet b)
+    where
+      go : (x : Bool) → Numbered (checkNumber (checkedBy x)) ((x, BAD-SHEET) ∷ [])
+      go true = record { known = lit≤ tt; first = refl }
+      go false = record { known = lit≤ tt; first = refl }
+
+  -- what a check says of an accepted sheet
+  check-accepted : checkOf b .bad ≡ false → (checkOf b .mask ≡ getD b 5 0) × (sheetIn b ≡ sheet (getD b 5 0) (stepsFrom b 6))
+  unfolding checkOf sheetIn stepsFrom
+  check-accepted = go (badSheet b)
+    where
+      go : (x : Bool) → checkedBy x .bad ≡ false
+          → (checkedBy x .mask ≡ getD b 5 0)
+          × ((if x then bad else sheet (getD b 5 0) (stepsIn (stepsOf b) (drop 6 b))) ≡ sheet (getD b 5 0) (stepsIn (stepsOf b) (drop 6 b)))
+      go true e = absurd (contrary refl e)
+      go false e = (refl, refl)
+
+sheet-bad : (b : List ℕ) → sheetIn b ≡ bad → badSheet b ≡ true
+unfolding sheetIn
+sheet-bad b e = go (badSheet b) e
+  where
+    go : (x : Bool) → (if x then bad else sheet (getD b 5 0) (stepsIn (stepsOf b) (drop 6 b))) ≡ bad → x ≡ true
+    go true f = refl
+    go false f = let z : _≡_ {A = ℕ} 0 1 = cc in absurd (omega arith)
+
+module _ (buf : List ℕ) (mask : ℕ) (kinds ids values : List ℕ) where
+  write-numbered : Numbered (sheets.number (ruled buf mask kinds ids values)) (writeRows buf mask kinds ids values)
+  write-numbered = go (unequal kinds ids values || eqb mask 0 || ltb 8000 (length kinds)) (ltb (length buf) (6 + 8 * length kinds)) refl refl
+    where
+      go : (x y : Bool) → unequal kinds ids values || eqb mask 0 || ltb 8000 (length kinds) ≡ x → ltb (length buf) (6 + 8 * length kinds) ≡ y
+          → Numbered (sheets.number (ruled buf mask kinds ids values)) ((x, BAD-SHEET) ∷ (y, number refusals.no-room) ∷ [])
+      go true y e f = rw (writing.bad buf mask kinds ids values e) (record { known = lit≤ tt; first = refl })
+      go false true e f = rw (writing.roomless buf mask kinds ids values e (omega (arith, ltb-true (length buf) (6 + 8 * length kinds) f))) (record { known = lit≤ tt; first = refl })
+      go false false e f = rw (← writing.done buf mask kinds ids values e (omega (arith, ltb-false (length buf) (6 + 8 * length kinds) f)) .0) (record { known = lit≤ tt; first = refl })
+
+  write-kept : (x : Written) → 0 < sheets.number x → bufferOf buf x ≡ buf
+  write-kept sheets.bad-sheet h = refl
+  write-kept sheets.no-room h = refl
+  write-kept (wrote l) h = absurd (omega arith)
+
+-- ---- a sheet that is run
+
+-- what a ruling leaves
+module _ (w out : List ℕ) where
+  ruling-known : (x : Ruling) → numberBy x ≤ 9
+  ruling-known bad-world = lit≤ tt
+  ruling-known bad-sheet = lit≤ tt
+  ruling-known no-room = lit≤ tt
+  ruling-known (runs mask ks) = lit≤ tt
+
+  ruling-world : (x : Ruling) → 0 < numberBy x → worldBy w x ≡ w
+  ruling-world bad-world h = refl
+  ruling-world bad-sheet h = refl
+  ruling-world no-room h = refl
+  ruling-world (runs mask ks) h = absurd (omega arith)
+
+  ruling-out : (x : Ruling) → 0 < numberBy x → laidBy out x ≡ (if eqb (numberBy x) BAD-SHEET then badLaid out else out)
+  unfolding laidBy
+  ruling-out bad-world h = refl
+  ruling-out bad-sheet h = go (ltb (length out) (length badOf))
+    where
+      go : (b : Bool) → (if b then [] else badOf) ++ drop (length (if b then [] else badOf)) out ≡ (if b then out else badOf ++ drop (length badOf) out)
+      go true = refl
+      go false = refl
+  ruling-out no-room h = refl
+  ruling-out (runs mask ks) h = absurd (omega arith)
+
+module _ (b w out : List ℕ) where
+  -- by the world's length, the sheet, and the room
+  abbrev ruledBy : Bool → Sheet → Ruling
+  ruledBy long s = if long then roomFor (length out) s else bad-world
+
+  rehearse-first : numberBy (ruledSheet b w out) ≡ firstOf (rehearseRows b w out)
+  unfolding ruledSheet
+  rehearse-first = go (eqb (length w) 65536) (sheetIn b) refl
+    where
+      room : (mask : ℕ) (ks : List Step) (n : ℕ) → n ≡ length ks → numberBy (roomFor (length out) (sheet mask ks)) ≡ firstOf ((ltb (length out) (longest n), number refusals.no-room) ∷ [])
+      room mask ks n e = rw e (pick (ltb (length out) (longest (length ks))))
+        where
+          pick : (x : Bool) → numberBy (if x then no-room else runs mask ks) ≡ firstOf ((x, number refusals.no-room) ∷ [])
+          pick true = refl
+          pick false = refl
+
+      go : (x : Bool) (s : Sheet) → sheetIn b ≡ s
+          → numberBy (ruledBy x s) ≡ firstOf ((not x, number refusals.bad-world) ∷ (badSheet b, BAD-SHEET) ∷ (ltb (length out) (longest (stepsOf b)), number refusals.no-room) ∷ [])
+      go true bad e = rw (sheet-bad b e)
+      go true (sheet mask ks) e = let a = accepted b mask ks e in rw (a .good) (room mask ks (stepsOf b) (count b mask ks a))
+      go false s e = refl
+
+  -- where it is run, it is this sheet
+  rehearse-runs : (mask : ℕ) (ks : List Step) → sheetIn b ≡ sheet mask ks → numberBy (ruledSheet b w out) ≡ 0 → ruledSheet b w out ≡ runs mask ks
+  unfolding ruledSheet
+  rehearse-runs mask ks e h = rw e (go (eqb (length w) 65536) (ltb (length out) (longest (length ks))) (rw e at h))
+    where
+      go : (x y : Bool) → numberBy (if x then (if y then no-room else runs mask ks) else bad-world) ≡ 0 → (if x then (if y then no-room else runs mask ks) else bad-world) ≡ runs mask ks
+      go true true h = absurd (omega (arith, h))
+      go true false h = refl
+      go false y h = absurd (omega (arith, h))
+
+-- ---- what a program answers and leaves is what was promised
+
+module _ (a : Answer) (b : List ℕ) (l : Lent) (e : lentOf a b ≡ l) where
+  says-number : a .number ≡ l .answer
+  unfolding lentOf
+  says-number = ap (λ (x : Lent). x .answer) e
+
+  says-buffer : b ≡ l .buffer
+  unfolding lentOf
+  says-buffer = ap (λ (x : Lent). x .buffer) e
+
+  says-report : reportOf (a .report) ≡ l .report
+  unfolding lentOf
+  says-report = ap (λ (x : Lent). x .report) e
+
+  module _ (w : List ℕ) (rows : Rows) (s : Said w rows l) where
+    numbered : Numbered (a .number) rows
+    numbered = record { known = omega (arith, says-number, s .known); first = says-number ∙ s .first }
+
+    unmoved : 0 < a .number → (b ≡ w) × (reportOf (a .report) ≡ noReport)
+    unmoved h = let k = s .refused (omega (arith, says-number)) in (says-buffer ∙ k .0, says-report ∙ k .1)
+
+module _ (c : Code) (p : Promised c) where
+  -- ---- a run
+
+  calls : Program
+  calls = record { answers = λ n w k. c .step w k; leaves = λ n w k. c .step-world w k }
+
+  ran-same : (n : ℕ) (w : List ℕ) (ks : List Step) → ran calls n w ks ≡ ranBy c w ks
+  unfolding ran ranBy calls
+  ran-same n w [] = refl
+  ran-same n w (k ∷ ks) = ran-same (suc n) (c .step-world w k) ks
+
+  told-same : (n : ℕ) (w : List ℕ) (ks : List Step) → told calls n w ks ≡ toldBy c w ks
+  unfolding told toldBy calls
+  told-same n w [] = refl
+  told-same n w (k ∷ ks) = ap (λ (l : List (List ℕ)). columns (c .step w k) ∷ l) (told-same (suc n) (c .step-world w k) ks)
+
+  abbrev Follows : List ℕ → World → List Step → Type 0
+  Follows w W ks = (ranBy c w ks ≡ image (lastWorld W ks)) × (toldBy c w ks ≡ map ruledLine (outcomes W ks))
+
+  run-of : (W : World) → wellFormed W ≡ true → (ks : List Step) → Follows (image W) W ks
+  unfolding calls
+  run-of W good ks =
+      let e = each-step calls (λ n w k. p .step w k) 0 W good ks in
+      (sym (ran-same 0 (image W) ks) ∙ e .0, sym (told-same 0 (image W) ks) ∙ e .1)
+
+  run-good : (w : List ℕ) → goodBytes w ≡ true → (ks : List Step) → Follows w (worldAt w) ks
+  run-good w good ks = subst (λ (x : List ℕ). Follows x (worldAt w) ks) (good-image w good) (run-of (worldAt w) (good-formed w good) ks)
+
+  started : (w : List ℕ) (mask : ℕ) → c .start w mask .number ≡ 0 → (0 < mask) × (mask < 256) × (c .start-world w mask ≡ image (start mask))
+  started w mask h =
+      let e = p .start w mask in
+      let a = start-accepted w mask (sym (says-number _ _ _ e) ∙ h) in
+      (a .0, a .1, says-buffer _ _ _ e ∙ a .2)
+
+  run-started : (w : List ℕ) (mask : ℕ) → c .start w mask .number ≡ 0 → (ks : List Step) → Follows (c .start-world w mask) (start mask) ks
+  run-started w mask h ks =
+      let a = started w mask h in
+      subst (λ (x : List ℕ). Follows x (start mask) ks) (sym (a .2)) (run-of (start mask) (start-good mask (a .0) (a .1)) ks)
+
+  taken : (w : List ℕ) (k : Step) → c .step w k .number ≡ 0
+      → (goodBytes w ≡ true) × (c .step-world w k ≡ image (after (worldAt w) (stepped (worldAt w) k))) × (reportOf (c .step w k .report) ≡ report (stepped (worldAt w) k))
+  taken w k h =
+      let e = p .step w k in
+      let a = step-accepted w k (sym (says-number _ _ _ e) ∙ h) in
+      (a .0, says-buffer _ _ _ e ∙ a .1, says-report _ _ _ e ∙ a .2)
+
+  -- ---- a rehearsal
+
+  module _ (b world out : List ℕ) where
+    rehearse-number : c .rehearse b world out .answer ≡ numberBy (ruledSheet b world out)
+    unfolding rehearseAnswer answerBy
+    rehearse-number = ap (λ (r : Rehearsed). r .answer) (p .rehearse-answer b world out)
+
+    rehearse-numbered : Numbered (c .rehearse b world out .answer) (rehearseRows b world out)
+    rehearse-numbered = rw rehearse-number (record { known = ruling-known world out (ruledSheet b world out); first = rehearse-first b world out })
+
+    module _ (h : 0 < c .rehearse b world out .answer) where
+      refused : 0 < numberBy (ruledSheet b world out)
+      refused = omega (arith, rehearse-number)
+
+      rehearse-world-kept : c .rehearse-world b world out ≡ world
+      unfolding worldLeft
+      rehearse-world-kept = p .rehearse-last b world out ∙ ruling-world world out (ruledSheet b world out) refused
+
+      rehearse-out-kept : c .rehearse-out b world out ≡ (if eqb (c .rehearse b world out .answer) BAD-SHEET then badLaid out else out)
+      unfolding recordLeft
+      rehearse-out-kept = rw rehearse-number (p .rehearse-printed b world out ∙ ruling-out world out (ruledSheet b world out) refused)
+
+    rehearsed : (mask : ℕ) (ks : List Step) → sheetIn b ≡ sheet mask ks → c .rehearse b world out .answer ≡ 0
+        → (c .rehearse b world out .length ≡ length (printed mask ks))
+        × (c .rehearse-world b world out ≡ image (lastWorld (start mask) ks))
+        × (c .rehearse-out b world out ≡ printed mask ks ++ drop (length (printed mask ks)) out)
+    unfolding rehearseAnswer answerBy worldLeft recordLeft laidBy
+    rehearsed mask ks e h =
+        let is = rehearse-runs b world out mask ks e (sym rehearse-number ∙ h) in (
+          ap (λ (r : Rehearsed). r .length) (p .rehearse-answer b world out ∙ ap (answerBy out) is),
+          p .rehearse-last b world out ∙ ap (worldBy world) is,
+          p .rehearse-printed b world out ∙ ap (laidBy out) is,
+        )
+
+  -- ---- a sheet
+
+  none-left : (l : List Step) → length l ≤ 0 → [] ≡ l
+  none-left [] h = refl
+  none-left (k ∷ l) h = absurd (omega arith)
+
+  read-all : (n : ℕ) (b : List ℕ) (at : ℕ) → length (stepsFrom b at) ≤ n → readFrom c n b at ≡ stepsFrom b at
+  unfolding readFrom
+  read-all zero b at h = none-left (stepsFrom b at) h
+  read-all (suc n) b at h = go (c .read-at b at .found) refl (read-all n b (c .read-at b at .at))
+    where
+      past : ℕ
+      past = c .read-at b at .at
+
+      go : (f : Found) → c .read-at b at .found ≡ f → (length (stepsFrom b past) ≤ n → readFrom c n b past ≡ stepsFrom b past) → before f (readFrom c n b past) ≡ stepsFrom b at
+      go (At k) e more =
+          let s = taken-step b at (c .read-at b at) (p .read-at b at) k e in
+          ap (λ (l : List Step). k ∷ l) (more (omega (arith, ap length s))) ∙ sym s
+      go End e more = sym (taken-end b at (c .read-at b at) (p .read-at b at) e)
+
+  read-sheet : (b : List ℕ) (mask : ℕ) (ks : List Step) → sheetIn b ≡ sheet mask ks → readBy c b ≡ ks
+  read-sheet b mask ks e =
+      let a = accepted b mask ks e in
+      let all = front b mask ks a in
+      read-all (length b) b 6 (omega (arith, ap length all, count b mask ks a)) ∙ all
+
+  sheet-again : (b buf : List ℕ) → Below 256 b → c .check b .bad ≡ false → length b ≤ length buf
+      → let mask = c .check b .mask in let ks = readBy c b in
+      (numberOf (c .write buf mask (kindsOf ks) (idsOf ks) (valuesOf ks)) ≡ 0) × (c .write-buf buf mask (kindsOf ks) (idsOf ks) (valuesOf ks) ≡ b ++ drop (length b) buf)
+  sheet-again b buf each h fits =
+      let e = p .check b in
+      let a = check-accepted b (sym (ap (λ (s : checked.Sheet). s .bad) e) ∙ h) in
+      let mask : ℕ = c .check b .mask in
+      let ks : List Step = readBy c b in
+      let mask-is : mask ≡ getD b 5 0 = ap (λ (s : checked.Sheet). s .mask) e ∙ a .0 in
+      let ks-is : ks ≡ stepsFrom b 6 = read-sheet b (getD b 5 0) (stepsFrom b 6) (a .1) in
+      let is : sheetIn b ≡ sheet mask ks = rw (mask-is, ks-is) (a .1) in
+      let wrote-is : ruled buf mask (kindsOf ks) (idsOf ks) (valuesOf ks) ≡ wrote (b ++ drop (length b) buf) = ruled-list buf mask ks ∙ again b buf mask ks each is fits in
+      (p .write-answer buf mask (kindsOf ks) (idsOf ks) (valuesOf ks) .0 ∙ ap sheets.number wrote-is, p .write-left buf mask (kindsOf ks) (idsOf ks) (valuesOf ks) ∙ ap (bufferOf buf) wrote-is)
+
+  module _ (buf : List ℕ) (mask : ℕ) (kinds ids values : List ℕ) (some : 0 < mask) (same : length ids ≡ length kinds) (alike : length values ≡ length kinds)
+      (few : length kinds ≤ 8000) (hk : Below 256 kinds) (hi : Below 256 ids) (hv : Below 4294967296 values) (room : 6 + 8 * length kinds ≤ length buf) where
+    abbrev steps : List Step
+    steps = listed kinds ids values
+
+    long : length steps ≡ length kinds
+    long = sliced kinds ids values same alike .long
+
+    ruled-is : ruled buf mask kinds ids values ≡ written buf mask steps
+    ruled-is =
+        let s = sliced kinds ids values same alike in
+        ap (λ (l : List ℕ). ruled buf mask l ids values) (sym (s .kinds-are))
+        ∙ ap (λ (l : List ℕ). ruled buf mask (kindsOf steps) l values) (sym (s .ids-are))
+        ∙ ap (λ (l : List ℕ). ruled buf mask (kindsOf steps) (idsOf steps) l) (sym (s .values-are))
+        ∙ ruled-list buf mask steps
+
+    wrote-is : written buf mask steps ≡ wrote (sheetBytes mask steps ++ drop (length (sheetBytes mask steps)) buf)
+    wrote-is = writing.ruling buf mask steps (λ z. omega arith) (omega (arith, long)) (omega (arith, long))
+
+    abbrev sent : List ℕ
+    sent = take (6 + 8 * length kinds) (c .write-buf buf mask kinds ids values)
+
+    sent-is : sheetIn sent ≡ sheet mask steps
+    sent-is =
+        let left : c .write-buf buf mask kinds ids values ≡ bufferOf buf (written buf mask steps) = p .write-left buf mask kinds ids values ∙ ap (bufferOf buf) ruled-is in
+        ap (λ (l : List ℕ). sheetIn (take (6 + 8 * length kinds) l)) left
+        ∙ ap (λ (n : ℕ). sheetIn (take (6 + 8 * n) (bufferOf buf (written buf mask steps)))) (sym long)
+        ∙ back buf mask steps some (omega (arith, long)) (smalls kinds ids values hk hi hv) (omega (arith, long))
+
+    check-is : c .check sent ≡ record { bad = false; mask = mask; steps = length kinds }
+    unfolding checkOf
+    check-is =
+        let a = accepted sent mask steps sent-is in
+        let n : stepsOf sent ≡ length kinds = count sent mask steps a ∙ long in
+        p .check sent ∙ rw (a .good) (λ i. record { bad = false; mask = a .masked i; steps = n i })
+
+    sheet-back : (numberOf (c .write buf mask kinds ids values) ≡ 0) × (c .check sent ≡ record { bad = false; mask = mask; steps = length kinds })
+        × (kindsOf (readBy c sent) ≡ kinds) × (idsOf (readBy c sent) ≡ ids) × (valuesOf (readBy c sent) ≡ values)
+    sheet-back =
+        let s = sliced kinds ids values same alike in
+        let read : readBy c sent ≡ steps = read-sheet sent mask steps sent-is in
+        (p .write-answer buf mask kinds ids values .0 ∙ ap sheets.number (ruled-is ∙ wrote-is), check-is, ap kindsOf read ∙ s .kinds-are, ap idsOf read ∙ s .ids-are, ap valuesOf read ∙ s .values-are)
+
+-- ---- the theorems
+
+pub demand1 : Demand1ForAll
+demand1 c p =
+    record {
+      step = λ w k. numbered _ _ _ (p .step w k) w (stepRows w k) (step-said w k);
+      start = λ w mask. numbered _ _ _ (p .start w mask) w (startRows w mask) (start-said w mask);
+      check = λ b. rw (p .check b) (check-numbered b);
+      write = λ buf mask kinds ids values. rw (p .write-answer buf mask kinds ids values .0) (write-numbered buf mask kinds ids values);
+      rehearse = rehearse-numbered c p;
+      step-kept = λ w k. unmoved _ _ _ (p .step w k) w (stepRows w k) (step-said w k);
+      start-kept = λ w mask. unmoved _ _ _ (p .start w mask) w (startRows w mask) (start-said w mask);
+      write-kept = λ buf mask kinds ids values h.
+          p .write-left buf mask kinds ids values ∙ write-kept buf mask kinds ids values (ruled buf mask kinds ids values) (omega (arith, p .write-answer buf mask kinds ids values .0));
+      world-kept = rehearse-world-kept c p;
+      out-kept = rehearse-out-kept c p;
+    }
+
+pub demand2 : Demand2ForAll
+demand2 c p =
+    record {
+      started = started c p;
+      accepted = taken c p;
+      run = run-good c p;
+      run-started = run-started c p;
+      rehearsed = rehearsed c p;
+      sheet-again = sheet-again c p;
+      sheet-back = λ buf mask kinds ids values some small same alike few hk hi hv room. sheet-back c p buf mask kinds ids values some same alike few hk hi hv room;
+    }
