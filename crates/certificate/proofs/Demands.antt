@@ -7,7 +7,7 @@ use Prim.Native.Nat.{ℕ, zero, suc, _+_, _*_, _≤_, _<_}
 use native.Mathlib.Omega.{arith}
 use lib.Dec.{eqb, leb, ltb, lit≤}
 use lib.ListN.{length, getD, take, drop}
-use borrow.Author.Tests.{leb-false, ltb-true, ltb-false, eqb-false, lt-ltb, le-ltb}
+use borrow.Author.Tests.{leb-false, ltb-true, ltb-false, eqb-false}
 use Rattle.views.proofs.Truth.{contrary}
 use Rattle.rules.specs.Sets.{_||_, if_then_else_}
 use Rattle.rules.specs.Messages.{bad-step, number}
@@ -25,14 +25,13 @@ use Rattle.rules.specs.Runs.{outcomes, lastWorld, answer, printed, longest, bad
 use Rattle.rules.proofs.Refusals.{number-range, every-answer}
 use Rattle.rules.proofs.Order.{first-applies}
 use Rattle.rules.proofs.Starts.{start-good}
-use Rattle.rules.proofs.ImageWorld.{world-back, image-good, good-formed, good-image}
+use Rattle.rules.proofs.ImageWorld.{good-formed, good-image}
 use Rattle.sheet.specs.declared.Sheet as checked
 use Rattle.sheet.specs.declared.Found.{Found}
 use Rattle.sheet.specs.declared.Found.the-variants.{At, End}
-use Rattle.sheet.specs.declared.reader.Taken.{Taken}
-use Rattle.sheet.specs.Reading.{checkOf, takenAt, stepsFrom}
+use Rattle.sheet.specs.Reading.{checkOf, stepsFrom}
 use Rattle.sheet.specs.Writing.{listed, kindsOf, idsOf, valuesOf, unequal, ruled, bufferOf, numberOf}
-use Rattle.sheet.proofs.Walk.{accepted, Accepted, count, sound, front, taken-step, taken-end}
+use Rattle.sheet.proofs.Walk.{accepted, count, front, taken-step, taken-end}
 use Rattle.sheet.proofs.Writing as writing
 use Rattle.sheet.proofs.Slices.{sliced, ruled-list}
 use Rattle.sheet.proofs.Back.{again, back, smalls}
@@ -42,8 +41,8 @@ use Rattle.world.specs.Answer.{lentOf, columns, reportOf}
 use Rattle.world.specs.Playing.{Ruling, bad-world, bad-sheet, no-room, runs, roomFor, answerBy, laidBy, worldBy, rehearseAnswer, worldLeft, recordLeft}
 use Rattle.world.specs.Playing.{ruled as ruledSheet, numberOf as numberBy}
 use Rattle.certificate.specs.Code.{Code, Promised}
-use Rattle.certificate.specs.Demand1.{Rows, BAD-SHEET, stepRows, startRows, checkRows, writeRows, rehearseRows, Numbered, badLaid, checkNumber, Demand1, Demand1ForAll}
-use Rattle.certificate.specs.Demand2.{ranBy, toldBy, before, readFrom, readBy, Below, Demand2, Demand2ForAll}
+use Rattle.certificate.specs.Demand1.{Rows, BAD-SHEET, stepRows, startRows, checkRows, writeRows, rehearseRows, Numbered, badLaid, checkNumber, Demand1ForAll}
+use Rattle.certificate.specs.Demand2.{ranBy, toldBy, before, readFrom, readBy, Below, Demand2ForAll}
 use Rattle.certificate.specs.Demand2.{ruled as ruledLine}
 use Rattle.certificate.proofs.Demand2.{Program, ran, told, each-step}
 
