@@ -29,7 +29,7 @@ use Rattle.rules.specs.Generators as generators
 use Rattle.rules.specs.Relays as relays
 use Rattle.rules.specs.Desks.{begun, ended}
 use Rattle.rules.specs.Desks as desks
-use Rattle.rules.specs.Image.{sequenceBytes, sequenceAt, pairAt, headBytes, generatorBytes, generatorAt, transferBytes, transferAt, deskBytes, deskAt, rowBytes, rowAt, goodBytes}
+use Rattle.rules.specs.Image.{sequenceBytes, pairAt, headBytes, generatorBytes, transferBytes, deskBytes, deskAt, rowBytes, goodBytes}
 use Rattle.rules.specs.Lent.{Lent, lentStart, lentStep}
 use Rattle.rules.specs.Sets.{if_then_else_}
 use Rattle.rules.specs.Sheets as sheets
@@ -51,7 +51,7 @@ use Rattle.generator.specs.Heard.{heardInRow}
 use Rattle.generator.specs.Rows.{freshRow, notedRow}
 use Rattle.relay.specs.Fitting.{joinAnswer, timerAnswer, hearsAnswer}
 use Rattle.desk.specs.Replies.{replyNoted}
-use Rattle.image.specs.Parts.{notesBytes, notesAt, headAt, messageRow}
+use Rattle.image.specs.Parts.{notesBytes, headAt, messageRow, sequenceRowAt, notesRowAt, generatorRowAt, transferRowAt, messageRowAt}
 use Rattle.sheet.specs.Reading.{checkOf, stepAt, afterOf, takenAt}
 use Rattle.sheet.specs.Writing.{ruled, ruledSize, bufferOf, numberOf, sizeOf}
 use Rattle.sheet.specs.declared.Written.{Written}
@@ -318,8 +318,8 @@ desk-note-reply desk from p = by-equation (replyNoted desk from p)
 
 -- ---- image
 
-pub image-sequence-at : (s : List ℕ) (at : ℕ) → DeterminedBy viewsOf (λ r. viewsOf r ≡ sequenceAt s at)
-image-sequence-at s at = by-meaning viewsOf (sequenceAt s at)
+pub image-sequence-at : (s : List ℕ) (at : ℕ) → Determined (λ r. r ≡ sequenceRowAt s at)
+image-sequence-at s at = by-equation (sequenceRowAt s at)
 
 pub image-put-sequence : (s : List ℕ) (at : ℕ) (q : Sequence) → Determined (λ b. b ≡ placed s at (sequenceBytes (viewsOf q)))
 image-put-sequence s at q = by-equation (placed s at (sequenceBytes (viewsOf q)))
@@ -333,20 +333,20 @@ image-head-at s at = by-equation (headAt s at)
 pub image-put-head : (s : List ℕ) (at : ℕ) (h : Head) → Determined (λ b. b ≡ placed s at (headBytes (relayOf h [] [])))
 image-put-head s at h = by-equation (placed s at (headBytes (relayOf h [] [])))
 
-pub image-notes-at : (s : List ℕ) (at : ℕ) → DeterminedBy notesOf (λ r. notesOf r ≡ notesAt s at)
-image-notes-at s at = by-meaning notesOf (notesAt s at)
+pub image-notes-at : (s : List ℕ) (at : ℕ) → Determined (λ r. r ≡ notesRowAt s at)
+image-notes-at s at = by-equation (notesRowAt s at)
 
 pub image-put-notes : (s : List ℕ) (at : ℕ) (n : Notes) → Determined (λ b. b ≡ placed s at (notesBytes (notesOf n)))
 image-put-notes s at n = by-equation (placed s at (notesBytes (notesOf n)))
 
-pub image-generator-at : (s : List ℕ) (at : ℕ) → DeterminedBy generatorOf (λ r. generatorOf r ≡ generatorAt s at)
-image-generator-at s at = by-meaning generatorOf (generatorAt s at)
+pub image-generator-at : (s : List ℕ) (at : ℕ) → Determined (λ r. r ≡ generatorRowAt s at)
+image-generator-at s at = by-equation (generatorRowAt s at)
 
 pub image-put-generator : (s : List ℕ) (at : ℕ) (g : Generator) → Determined (λ b. b ≡ placed s at (generatorBytes (generatorOf g)))
 image-put-generator s at g = by-equation (placed s at (generatorBytes (generatorOf g)))
 
-pub image-transfer-at : (s : List ℕ) (at : ℕ) → DeterminedBy transferOf (λ r. transferOf r ≡ transferAt s at)
-image-transfer-at s at = by-meaning transferOf (transferAt s at)
+pub image-transfer-at : (s : List ℕ) (at : ℕ) → Determined (λ r. r ≡ transferRowAt s at)
+image-transfer-at s at = by-equation (transferRowAt s at)
 
 pub image-put-transfer : (s : List ℕ) (at : ℕ) (t : Transfer) → Determined (λ b. b ≡ placed s at (transferBytes (transferOf t)))
 image-put-transfer s at t = by-equation (placed s at (transferBytes (transferOf t)))
@@ -357,8 +357,8 @@ image-desk-at s at = by-equation (deskAt s at)
 pub image-put-desk : (s : List ℕ) (at : ℕ) (d : Desk) → Determined (λ b. b ≡ placed s at (deskBytes d))
 image-put-desk s at d = by-equation (placed s at (deskBytes d))
 
-pub image-message-at : (s : List ℕ) (at : ℕ) → DeterminedBy messageRow (λ r. messageRow r ≡ rowAt s at)
-image-message-at s at = by-meaning messageRow (rowAt s at)
+pub image-message-at : (s : List ℕ) (at : ℕ) → Determined (λ r. r ≡ messageRowAt s at)
+image-message-at s at = by-equation (messageRowAt s at)
 
 pub image-put-message : (s : List ℕ) (at : ℕ) (m : Message) → Determined (λ b. b ≡ placed s at (rowBytes (messageRow m)))
 image-put-message s at m = by-equation (placed s at (rowBytes (messageRow m)))

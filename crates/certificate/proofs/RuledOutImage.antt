@@ -3,15 +3,14 @@ use mathlib.Core.Path.{_≡_}
 use mathlib.Core.Bool.{true, false}
 use mathlib.Core.List.{List, [], _∷_, _++_}
 use Prim.Native.Nat.{ℕ, _+_, _*_}
-use lib.ListN.{length, getD, replicate}
+use lib.ListN.{getD, replicate}
 use Rattle.views.specs.Row.{viewsOf, rowOf}
 use Rattle.views.specs.declared.Sequence.{Sequence}
 use Rattle.stamps.specs.declared.Pair.{Pair}
 use Rattle.stamps.specs.Stamp.{freshPair}
 use Rattle.rows.specs.Bytes.{splice, placed, bytesOf, numberAt, be16, u16At, run, tab, cat, zeros}
 use Rattle.rules.specs.State.{withKnown}
-use Rattle.rules.specs.State as state
-use Rattle.rules.specs.Image.{flagAt, sequenceBytes, sequenceAt, pairBytes, pairAt, headBytes, generatorBytes, generatorAt, transferBytes, transferAt, deskBytes, deskAt, Row, row, rowBytes, rowAt}
+use Rattle.rules.specs.Image.{flagAt, sequenceBytes, sequenceAt, pairBytes, pairAt, headBytes, generatorBytes, transferBytes, deskBytes, deskAt, rowBytes}
 use Rattle.rules.specs.declared.Desk.{Desk}
 use Rattle.rules.specs.declared.Phase.the-variants.{Read1}
 use Rattle.state.specs.declared.Notes.{Notes}
@@ -20,7 +19,7 @@ use Rattle.state.specs.declared.Transfer.{Transfer}
 use Rattle.state.specs.declared.Head.{Head}
 use Rattle.state.specs.declared.Message.{Message}
 use Rattle.state.specs.Meaning.{notesOf, generatorOf, transferOf, relayOf}
-use Rattle.image.specs.Parts.{notesBytes, notesAt, headAt, messageRow}
+use Rattle.image.specs.Parts.{notesBytes, headAt, messageRow, sequenceRowAt, notesRowAt, generatorRowAt, transferRowAt, messageRowAt}
 use Rattle.certificate.proofs.Differ.{differ, truth, entry}
 
 -- ---- image; {3} and {3, 7} as they stand in a buffer, and how many views a sequence has
@@ -28,16 +27,24 @@ use Rattle.certificate.proofs.Differ.{differ, truth, entry}
 abbrev sequence : Sequence
 sequence = rowOf (3 ∷ [])
 
-abbrev manyIn : List (List ℕ) → ℕ → ℕ
-manyIn ns i = length (getD ns i [])
+abbrev many : Sequence → ℕ
+many q = q .len
 
-pub image-sequence-at-all-fifteen : ¬ ((s : List ℕ) (at : ℕ) → tab 15 (λ k. u16At s (at + 2 * k)) ≡ sequenceAt s at)
-unfolding numberAt tab bytesOf run sequenceBytes sequenceAt
-image-sequence-at-all-fifteen p = differ length (p (sequenceBytes (3 ∷ 7 ∷ [])) 0) tt
+abbrev manyIn : Notes → ℕ → ℕ
+manyIn n i = many (getD (n .of) i (rowOf []))
 
-pub image-sequence-at-the-next : ¬ ((s : List ℕ) (at : ℕ) → sequenceAt s (at + 31) ≡ sequenceAt s at)
-unfolding numberAt tab bytesOf run sequenceBytes sequenceAt
-image-sequence-at-the-next p = differ length (p (sequenceBytes (3 ∷ 7 ∷ [])) 0) tt
+pub image-sequence-at-all-fifteen : ¬ ((s : List ℕ) (at : ℕ) → record { views = tab 15 (λ k. u16At s (at + 2 * k)); len = 15 } ≡ sequenceRowAt s at)
+unfolding sequenceRowAt
+image-sequence-at-all-fifteen p = differ many (p [] 0) tt
+
+pub image-sequence-at-the-next : ¬ ((s : List ℕ) (at : ℕ) → sequenceRowAt s (at + 31) ≡ sequenceRowAt s at)
+unfolding bytesOf run sequenceBytes sequenceRowAt
+image-sequence-at-the-next p = differ many (p (sequenceBytes (3 ∷ 7 ∷ [])) 0) tt
+
+-- a view past the length, which means nothing
+pub image-sequence-at-without-unused-views : ¬ ((s : List ℕ) (at : ℕ) → rowOf (sequenceAt s at) ≡ sequenceRowAt s at)
+unfolding rowOf numberAt tab sequenceAt sequenceRowAt
+image-sequence-at-without-unused-views p = differ (λ (q : Sequence). entry 0 (q .views)) (p (0 ∷ 7 ∷ []) 0) tt
 
 pub image-put-sequence-nowhere : ¬ ((s : List ℕ) (at : ℕ) (q : Sequence) → s ≡ placed s at (sequenceBytes (viewsOf q)))
 unfolding viewsOf rowOf placed splice bytesOf run zeros sequenceBytes
@@ -89,13 +96,13 @@ image-put-head-without-known p = differ (entry 6) (p (zeros 64) 0 head) tt
 abbrev notes : Notes
 notes = record { of = rowOf [] ∷ sequence ∷ replicate 6 (rowOf []) }
 
-pub image-notes-at-from-the-next : ¬ ((s : List ℕ) (at : ℕ) → notesAt s (at + 31) ≡ notesAt s at)
-unfolding numberAt tab bytesOf run sequenceBytes sequenceAt notesAt
-image-notes-at-from-the-next p = differ (λ ns. manyIn ns 0) (p (sequenceBytes (3 ∷ [])) 0) tt
+pub image-notes-at-from-the-next : ¬ ((s : List ℕ) (at : ℕ) → notesRowAt s (at + 31) ≡ notesRowAt s at)
+unfolding tab bytesOf run sequenceBytes sequenceRowAt notesRowAt
+image-notes-at-from-the-next p = differ (λ n. manyIn n 0) (p (sequenceBytes (3 ∷ [])) 0) tt
 
-pub image-notes-at-the-first-eight-times : ¬ ((s : List ℕ) (at : ℕ) → replicate 8 (sequenceAt s at) ≡ notesAt s at)
-unfolding numberAt tab bytesOf run sequenceBytes sequenceAt notesAt
-image-notes-at-the-first-eight-times p = differ (λ ns. manyIn ns 1) (p (sequenceBytes (3 ∷ [])) 0) tt
+pub image-notes-at-the-first-eight-times : ¬ ((s : List ℕ) (at : ℕ) → record { of = replicate 8 (sequenceRowAt s at) } ≡ notesRowAt s at)
+unfolding tab bytesOf run sequenceBytes sequenceRowAt notesRowAt
+image-notes-at-the-first-eight-times p = differ (λ n. manyIn n 1) (p (sequenceBytes (3 ∷ [])) 0) tt
 
 pub image-put-notes-nowhere : ¬ ((s : List ℕ) (at : ℕ) (n : Notes) → s ≡ placed s at (notesBytes (notesOf n)))
 unfolding viewsOf rowOf notesOf placed splice bytesOf run zeros sequenceBytes notesBytes
@@ -109,25 +116,25 @@ image-put-notes-first-only p = differ (entry 61) (p (zeros 248) 0 notes) tt
 abbrev generator : Generator
 generator = record { view = 1; own = sequence; converged = rowOf []; raised = rowOf []; proposals = notes; convergences = notes }
 
-abbrev exchanged : state.Generator → state.Generator
+abbrev exchanged : Generator → Generator
 exchanged g = record { view = g .view; own = g .converged; converged = g .own; raised = g .raised; proposals = g .proposals; convergences = g .convergences }
 
-abbrev manyOwn : state.Generator → ℕ
-manyOwn g = length (g .own)
+abbrev manyOwn : Generator → ℕ
+manyOwn g = many (g .own)
 
-pub image-generator-at-the-next : ¬ ((s : List ℕ) (at : ℕ) → generatorAt s (at + 592) ≡ generatorAt s at)
-unfolding numberAt tab bytesOf run sequenceBytes sequenceAt generatorAt
+pub image-generator-at-the-next : ¬ ((s : List ℕ) (at : ℕ) → generatorRowAt s (at + 592) ≡ generatorRowAt s at)
+unfolding bytesOf run sequenceBytes sequenceRowAt generatorRowAt
 image-generator-at-the-next p = differ manyOwn (p (be16 1 ++ sequenceBytes (3 ∷ [])) 0) tt
 
-pub image-generator-at-own-for-converged : ¬ ((s : List ℕ) (at : ℕ) → exchanged (generatorAt s at) ≡ generatorAt s at)
-unfolding numberAt tab bytesOf run sequenceBytes sequenceAt generatorAt
+pub image-generator-at-own-for-converged : ¬ ((s : List ℕ) (at : ℕ) → exchanged (generatorRowAt s at) ≡ generatorRowAt s at)
+unfolding bytesOf run sequenceBytes sequenceRowAt generatorRowAt
 image-generator-at-own-for-converged p = differ manyOwn (p (be16 1 ++ sequenceBytes (3 ∷ [])) 0) tt
 
 pub image-put-generator-nowhere : ¬ ((s : List ℕ) (at : ℕ) (g : Generator) → s ≡ placed s at (generatorBytes (generatorOf g)))
 unfolding viewsOf rowOf notesOf generatorOf placed splice bytesOf run zeros cat sequenceBytes generatorBytes
 image-put-generator-nowhere p = differ (entry 32) (p (zeros 592) 0 generator) tt
 
-pub image-put-generator-own-for-converged : ¬ ((s : List ℕ) (at : ℕ) (g : Generator) → placed s at (generatorBytes (exchanged (generatorOf g))) ≡ placed s at (generatorBytes (generatorOf g)))
+pub image-put-generator-own-for-converged : ¬ ((s : List ℕ) (at : ℕ) (g : Generator) → placed s at (generatorBytes (generatorOf (exchanged g))) ≡ placed s at (generatorBytes (generatorOf g)))
 unfolding viewsOf rowOf notesOf generatorOf placed splice bytesOf run zeros cat sequenceBytes generatorBytes
 image-put-generator-own-for-converged p = differ (entry 32) (p (zeros 592) 0 generator) tt
 
@@ -135,22 +142,22 @@ image-put-generator-own-for-converged p = differ (entry 32) (p (zeros 592) 0 gen
 abbrev transfer : Transfer
 transfer = record { old = 1; new = 3; sequence = sequence; senders = 1; best = pair; gathered = 0 }
 
-abbrev backwards : state.Transfer → state.Transfer
+abbrev backwards : Transfer → Transfer
 backwards t = record { old = t .new; new = t .old; sequence = t .sequence; senders = t .senders; best = t .best; gathered = t .gathered }
 
-pub image-transfer-at-the-next : ¬ ((s : List ℕ) (at : ℕ) → transferAt s (at + 80) ≡ transferAt s at)
-unfolding numberAt tab sequenceAt pairAt transferAt
-image-transfer-at-the-next p = differ (λ (t : state.Transfer). t .old) (p (0 ∷ 1 ∷ 0 ∷ 3 ∷ []) 0) tt
+pub image-transfer-at-the-next : ¬ ((s : List ℕ) (at : ℕ) → transferRowAt s (at + 80) ≡ transferRowAt s at)
+unfolding numberAt transferRowAt
+image-transfer-at-the-next p = differ (λ (t : Transfer). t .old) (p (0 ∷ 1 ∷ 0 ∷ 3 ∷ []) 0) tt
 
-pub image-transfer-at-backwards : ¬ ((s : List ℕ) (at : ℕ) → backwards (transferAt s at) ≡ transferAt s at)
-unfolding numberAt tab sequenceAt pairAt transferAt
-image-transfer-at-backwards p = differ (λ (t : state.Transfer). t .old) (p (0 ∷ 1 ∷ 0 ∷ 3 ∷ []) 0) tt
+pub image-transfer-at-backwards : ¬ ((s : List ℕ) (at : ℕ) → backwards (transferRowAt s at) ≡ transferRowAt s at)
+unfolding numberAt transferRowAt
+image-transfer-at-backwards p = differ (λ (t : Transfer). t .old) (p (0 ∷ 1 ∷ 0 ∷ 3 ∷ []) 0) tt
 
 pub image-put-transfer-nowhere : ¬ ((s : List ℕ) (at : ℕ) (t : Transfer) → s ≡ placed s at (transferBytes (transferOf t)))
 unfolding viewsOf rowOf transferOf placed splice bytesOf run zeros cat sequenceBytes pairBytes transferBytes
 image-put-transfer-nowhere p = differ (entry 1) (p (zeros 80) 0 transfer) tt
 
-pub image-put-transfer-backwards : ¬ ((s : List ℕ) (at : ℕ) (t : Transfer) → placed s at (transferBytes (backwards (transferOf t))) ≡ placed s at (transferBytes (transferOf t)))
+pub image-put-transfer-backwards : ¬ ((s : List ℕ) (at : ℕ) (t : Transfer) → placed s at (transferBytes (transferOf (backwards t))) ≡ placed s at (transferBytes (transferOf t)))
 unfolding viewsOf rowOf transferOf placed splice bytesOf run zeros cat sequenceBytes pairBytes transferBytes
 image-put-transfer-backwards p = differ (entry 1) (p (zeros 80) 0 transfer) tt
 
@@ -181,21 +188,21 @@ image-put-desk-best-as-held p = differ (entry 12) (p (zeros 64) 0 desk) tt
 abbrev message : Message
 message = record { from = 0; to = 1; body = record { kind = 2; first = 3; second = 0; tries = 0; sequence = rowOf []; pair = freshPair; updates = 0 } }
 
-abbrev returned : Row → Row
-returned m = row (m .kind) (m .to) (m .from) (m .first) (m .second) (m .tries) (m .sequence) (m .pair) (m .updates)
+abbrev returned : Message → Message
+returned m = record { from = m .to; to = m .from; body = m .body }
 
-pub image-message-at-the-next : ¬ ((s : List ℕ) (at : ℕ) → rowAt s (at + 80) ≡ rowAt s at)
-unfolding numberAt tab sequenceAt pairAt rowAt
-image-message-at-the-next p = differ (λ (m : Row). m .kind) (p (2 ∷ 0 ∷ 1 ∷ 0 ∷ 3 ∷ []) 0) tt
+pub image-message-at-the-next : ¬ ((s : List ℕ) (at : ℕ) → messageRowAt s (at + 80) ≡ messageRowAt s at)
+unfolding messageRowAt
+image-message-at-the-next p = differ (λ (m : Message). m .body .kind) (p (2 ∷ 0 ∷ 1 ∷ 0 ∷ 3 ∷ []) 0) tt
 
-pub image-message-at-sender-for-receiver : ¬ ((s : List ℕ) (at : ℕ) → returned (rowAt s at) ≡ rowAt s at)
-unfolding numberAt tab sequenceAt pairAt rowAt
-image-message-at-sender-for-receiver p = differ (λ (m : Row). m .to) (p (2 ∷ 0 ∷ 1 ∷ 0 ∷ 3 ∷ []) 0) tt
+pub image-message-at-sender-for-receiver : ¬ ((s : List ℕ) (at : ℕ) → returned (messageRowAt s at) ≡ messageRowAt s at)
+unfolding messageRowAt
+image-message-at-sender-for-receiver p = differ (λ (m : Message). m .to) (p (2 ∷ 0 ∷ 1 ∷ 0 ∷ 3 ∷ []) 0) tt
 
 pub image-put-message-nowhere : ¬ ((s : List ℕ) (at : ℕ) (m : Message) → s ≡ placed s at (rowBytes (messageRow m)))
 unfolding viewsOf rowOf placed splice bytesOf run zeros cat sequenceBytes pairBytes rowBytes messageRow
 image-put-message-nowhere p = differ (entry 0) (p (zeros 80) 0 message) tt
 
-pub image-put-message-sender-for-receiver : ¬ ((s : List ℕ) (at : ℕ) (m : Message) → placed s at (rowBytes (returned (messageRow m))) ≡ placed s at (rowBytes (messageRow m)))
+pub image-put-message-sender-for-receiver : ¬ ((s : List ℕ) (at : ℕ) (m : Message) → placed s at (rowBytes (messageRow (returned m))) ≡ placed s at (rowBytes (messageRow m)))
 unfolding viewsOf rowOf placed splice bytesOf run zeros cat sequenceBytes pairBytes rowBytes messageRow
 image-put-message-sender-for-receiver p = differ (entry 1) (p (zeros 80) 0 message) tt

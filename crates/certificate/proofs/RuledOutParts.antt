@@ -7,9 +7,9 @@ use Prim.Native.Nat.{ℕ, _+_, _%_}
 use lib.Bits.{bitAnd}
 use lib.Count.{ones, onesIn}
 use lib.Dec.{eqb, leb}
-use lib.ListN.{length, getD, drop, replicate}
+use lib.ListN.{length, getD, replicate}
 use Rattle.views.specs.View.{memberOf, quorumOf, reachesOf, insideOf, clashOf}
-use Rattle.views.specs.Chain.{some, sameOf, leastOf, plusOf, unionOf, heardOf}
+use Rattle.views.specs.Chain.{some, sameOf, plusOf, unionOf, heardOf}
 use Rattle.views.specs.Row.{viewsOf, rowOf}
 use Rattle.views.specs.declared.Sequence.{Sequence}
 use Rattle.stamps.specs.Stamp.{signOf, comparedOf, greaterOf, greatestOf, freshPair}
@@ -91,25 +91,25 @@ pub messages-proposal-as-converged : ¬ ((v : ℕ) (q : Sequence) → madeWith q
 unfolding madeWith viewsOf rowOf
 messages-proposal-as-converged p = differ kind (p 1 (rowOf (3 ∷ []))) tt
 
-pub messages-proposal-of-one-view : ¬ ((v : ℕ) (q : Sequence) → withSequence (rowOf (leastOf (viewsOf q) ∷ [])) (madeWith q (rules.proposal v (viewsOf q))) ≡ madeWith q (rules.proposal v (viewsOf q)))
+pub messages-proposal-without-its-views : ¬ ((v : ℕ) (q : Sequence) → made (rules.proposal v (viewsOf q)) ≡ madeWith q (rules.proposal v (viewsOf q)))
 unfolding madeWith viewsOf rowOf
-messages-proposal-of-one-view p = differ many (p 1 (rowOf (3 ∷ 7 ∷ []))) tt
+messages-proposal-without-its-views p = differ many (p 1 (rowOf (3 ∷ 7 ∷ []))) tt
 
 pub messages-converged-as-proposal : ¬ ((v : ℕ) (q : Sequence) → madeWith q (rules.proposal v (viewsOf q)) ≡ madeWith q (rules.converged v (viewsOf q)))
 unfolding madeWith viewsOf rowOf
 messages-converged-as-proposal p = differ kind (p 1 (rowOf (3 ∷ []))) tt
 
-pub messages-converged-for-the-least : ¬ ((v : ℕ) (q : Sequence) → madeWith q (rules.converged (leastOf (viewsOf q)) (viewsOf q)) ≡ madeWith q (rules.converged v (viewsOf q)))
+pub messages-converged-for-no-view : ¬ ((v : ℕ) (q : Sequence) → madeWith q (rules.converged 0 (viewsOf q)) ≡ madeWith q (rules.converged v (viewsOf q)))
 unfolding madeWith viewsOf rowOf
-messages-converged-for-the-least p = differ about (p 1 (rowOf (3 ∷ []))) tt
+messages-converged-for-no-view p = differ about (p 1 (rowOf (3 ∷ []))) tt
 
 pub messages-install-exchanged : ¬ ((o w : ℕ) (q : Sequence) → madeWith q (rules.install w o (viewsOf q)) ≡ madeWith q (rules.install o w (viewsOf q)))
 unfolding madeWith viewsOf rowOf
 messages-install-exchanged p = differ about (p 1 3 (rowOf (3 ∷ []))) tt
 
-pub messages-install-without-its-least : ¬ ((o w : ℕ) (q : Sequence) → withSequence (rowOf (drop 1 (viewsOf q))) (madeWith q (rules.install o w (viewsOf q))) ≡ madeWith q (rules.install o w (viewsOf q)))
+pub messages-install-without-its-views : ¬ ((o w : ℕ) (q : Sequence) → made (rules.install o w (viewsOf q)) ≡ madeWith q (rules.install o w (viewsOf q)))
 unfolding madeWith viewsOf rowOf
-messages-install-without-its-least p = differ many (p 1 3 (rowOf (3 ∷ []))) tt
+messages-install-without-its-views p = differ many (p 1 3 (rowOf (3 ∷ []))) tt
 
 pub messages-state-without-its-pair : ¬ ((o w : ℕ) (p : Pair) (updates : ℕ) → made (rules.state o w freshPair updates) ≡ made (rules.state o w p updates))
 unfolding madeWith
@@ -202,8 +202,8 @@ messages-to-members-another-body p = differ (λ (s : Sending). tries (s .body)) 
 pub messages-to-both-to-old-members-only : ¬ ((v w : ℕ) (body : Body) → sendTo (members v) body ≡ sendTo (joined (members v) (members w)) body)
 messages-to-both-to-old-members-only p = differ receivers (p 1 3 (blankOf 11)) tt
 
-pub messages-to-both-to-members-of-both : ¬ ((v w : ℕ) (body : Body) → sendTo (bitAnd (members v) (members w)) body ≡ sendTo (joined (members v) (members w)) body)
-messages-to-both-to-members-of-both p = differ receivers (p 1 3 (blankOf 11)) tt
+pub messages-to-both-who-are-in-both : ¬ ((v w : ℕ) (body : Body) → sendTo (bitAnd (members v) (members w)) body ≡ sendTo (joined (members v) (members w)) body)
+messages-to-both-who-are-in-both p = differ receivers (p 1 3 (blankOf 11)) tt
 
 pub messages-to-one-number-as-a-set : ¬ ((s : ℕ) (body : Body) → sendTo s body ≡ sendTo (oneOf s) body)
 messages-to-one-number-as-a-set p = differ receivers (p 0 (blankOf 11)) tt

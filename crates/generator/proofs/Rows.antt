@@ -1,5 +1,5 @@
 -- What the code's generators mean: the rules' fresh one, and the notes with the sender's set. Assumes nothing.
-use mathlib.Core.Path.{_≡_, refl, ap, _∙_}
+use mathlib.Core.Path.{_≡_, refl}
 use mathlib.Core.List.{[]}
 use Prim.Native.Nat.{ℕ}
 use lib.ListN.{set}

@@ -6,10 +6,10 @@ use native.Mathlib.Nat.{add-assoc, add-zero}
 use native.Mathlib.Decide.{ℕ-discrete}
 use native.Mathlib.Omega.{arith}
 use lib.ListN.{length, getD, List·getD-eq-default}
-use Rattle.rows.specs.Bytes.{numberAt, u16At, tab}
+use Rattle.rows.specs.Bytes.{numberAt, u16At}
 use Rattle.rows.proofs.Laws.{tab-ext}
-use Rattle.rules.specs.Image.{phaseOf, sequenceAt, pairAt, generatorAt, transferAt, deskAt, rowAt}
-use Rattle.image.specs.Parts.{notesAt, headAt}
+use Rattle.rules.specs.Image.{phaseOf, pairAt, deskAt}
+use Rattle.image.specs.Parts.{headAt, sequenceRowAt, notesRowAt, generatorRowAt, transferRowAt, messageRowAt}
 
 pub record Alike (l : List ℕ) (i j : ℕ) : Type 0 where
   pub byte : (k : ℕ) → getD l (i + k) 0 ≡ getD l (j + k) 0
@@ -40,34 +40,37 @@ u16-alike : {l : List ℕ} {i j : ℕ} → Alike l i j → (n : ℕ) → u16At l
 u16-alike h n = number-alike (on h n) 2
 
 module _ {l : List ℕ} {i j : ℕ} (h : Alike l i j) where
-  pub sequence-alike : sequenceAt l i ≡ sequenceAt l j
-  unfolding sequenceAt
+  pub sequence-alike : sequenceRowAt l i ≡ sequenceRowAt l j
+  unfolding sequenceRowAt
   sequence-alike = rw (h .byte 30, tab-ext 15 (λ k. u16At l (i + 2 * k)) (λ k. u16At l (j + 2 * k)) (λ k p. u16-alike h (2 * k)))
 
   pub pair-alike : pairAt l i ≡ pairAt l j
   unfolding pairAt
   pair-alike = cc (number-alike h 2, h .byte 2, number-alike (on h 3) 4)
 
-pub notes-alike : {l : List ℕ} {i j : ℕ} → Alike l i j → notesAt l i ≡ notesAt l j
-unfolding notesAt
-notes-alike {l} {i} {j} h = tab-ext 8 (λ k. sequenceAt l (i + k * 31)) (λ k. sequenceAt l (j + k * 31)) (λ k p. sequence-alike (on h (k * 31)))
+pub notes-alike : {l : List ℕ} {i j : ℕ} → Alike l i j → notesRowAt l i ≡ notesRowAt l j
+unfolding notesRowAt
+notes-alike {l} {i} {j} h = rw (tab-ext 8 (λ k. sequenceRowAt l (i + k * 31)) (λ k. sequenceRowAt l (j + k * 31)) (λ k p. sequence-alike (on h (k * 31))))
 
 module _ {l : List ℕ} {i j : ℕ} (h : Alike l i j) where
   pub head-alike : headAt l i ≡ headAt l j
   unfolding headAt
   head-alike = cc (first h, h .byte 1, h .byte 2, u16-alike h 3, u16-alike h 5, u16-alike h 7, pair-alike (on h 9))
 
-  notes-on : (n : ℕ) → tab 8 (λ k. sequenceAt l (i + n + k * 31)) ≡ tab 8 (λ k. sequenceAt l (j + n + k * 31))
-  unfolding notesAt
-  notes-on n = notes-alike (on h n)
-
-  pub generator-alike : generatorAt l i ≡ generatorAt l j
-  unfolding generatorAt
+  pub generator-alike : generatorRowAt l i ≡ generatorRowAt l j
+  unfolding generatorRowAt
   generator-alike =
-      cc (number-alike h 2, sequence-alike (on h 2), sequence-alike (on h 33), sequence-alike (on h 64), notes-on 95, notes-on 343)
+      cc (
+        number-alike h 2,
+        sequence-alike (on h 2),
+        sequence-alike (on h 33),
+        sequence-alike (on h 64),
+        notes-alike (on h 95),
+        notes-alike (on h 343),
+      )
 
-  pub transfer-alike : transferAt l i ≡ transferAt l j
-  unfolding transferAt
+  pub transfer-alike : transferRowAt l i ≡ transferRowAt l j
+  unfolding transferRowAt
   transfer-alike = cc (number-alike h 2, u16-alike h 2, sequence-alike (on h 4), h .byte 35, pair-alike (on h 36), u16-alike h 43)
 
   pub desk-alike : deskAt l i ≡ deskAt l j
@@ -84,7 +87,7 @@ module _ {l : List ℕ} {i j : ℕ} (h : Alike l i j) where
         ap phaseOf (h .byte 1),
       )
 
-  pub row-alike : rowAt l i ≡ rowAt l j
-  unfolding rowAt
-  row-alike =
+  pub message-alike : messageRowAt l i ≡ messageRowAt l j
+  unfolding messageRowAt
+  message-alike =
       cc (first h, h .byte 1, h .byte 2, u16-alike h 3, u16-alike h 5, u16-alike h 7, sequence-alike (on h 9), pair-alike (on h 40), u16-alike h 47)

@@ -1,4 +1,5 @@
-pub mod Ends
+mod Ends
 pub mod Widths
 pub mod Parts
+pub mod Meaning
 mod Fields

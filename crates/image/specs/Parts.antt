@@ -1,18 +1,20 @@
--- What the code reads and writes at once and Image has no name for: eight notes, a relay without its tables, a message as the code holds it.
--- Assumes nothing.
+-- What the code reads and writes at once and Image has no name for: eight notes, a relay without its tables, a message as the code holds it; and what it
+-- reads in its own rows, whose unused entries Image does not look at. Assumes nothing.
 use mathlib.Core.List.{List, []}
 use Prim.Native.Nat.{ℕ, _+_, _*_}
+use lib.ListN.{getD}
 use Rattle.rows.specs.Bytes.{u16At, tab, table}
-use Rattle.rules.specs.Image.{Row, flagAt, sequenceBytes, sequenceAt, pairAt}
+use Rattle.views.specs.declared.Sequence.{Sequence}
+use Rattle.rules.specs.Image.{Row, flagAt, sequenceBytes, pairAt}
+use Rattle.state.specs.declared.Notes.{Notes}
+use Rattle.state.specs.declared.Generator.{Generator}
+use Rattle.state.specs.declared.Transfer.{Transfer}
 use Rattle.state.specs.declared.Head.{Head}
 use Rattle.state.specs.declared.Message.{Message}
 use Rattle.state.specs.Meaning.{addressedRow}
 
 unfoldable pub notesBytes : List (List ℕ) → List ℕ
 notesBytes qs = table sequenceBytes [] 8 qs
-
-unfoldable pub notesAt : List ℕ → ℕ → List (List ℕ)
-notesAt b i = tab 8 (λ k. sequenceAt b (i + k * 31))
 
 -- what `relayAt` reads before the tables
 unfoldable pub headAt : List ℕ → ℕ → Head
@@ -29,3 +31,51 @@ headAt b i =
 
 unfoldable pub messageRow : Message → Row
 messageRow m = addressedRow (m .from) (m .to) (m .body)
+
+-- ---- the rows of the code: what each means is what Image reads there (proofs/Meaning)
+
+-- all fifteen views, and how many of them count
+unfoldable pub sequenceRowAt : List ℕ → ℕ → Sequence
+sequenceRowAt b i = record { views = tab 15 (λ k. u16At b (i + 2 * k)); len = getD b (i + 30) 0 }
+
+unfoldable pub notesRowAt : List ℕ → ℕ → Notes
+notesRowAt b i = record { of = tab 8 (λ k. sequenceRowAt b (i + k * 31)) }
+
+unfoldable pub generatorRowAt : List ℕ → ℕ → Generator
+generatorRowAt b i =
+    record {
+      view = u16At b i;
+      own = sequenceRowAt b (i + 2);
+      converged = sequenceRowAt b (i + 33);
+      raised = sequenceRowAt b (i + 64);
+      proposals = notesRowAt b (i + 95);
+      convergences = notesRowAt b (i + 343);
+    }
+
+unfoldable pub transferRowAt : List ℕ → ℕ → Transfer
+transferRowAt b i =
+    record {
+      old = u16At b i;
+      new = u16At b (i + 2);
+      sequence = sequenceRowAt b (i + 4);
+      senders = getD b (i + 35) 0;
+      best = pairAt b (i + 36);
+      gathered = u16At b (i + 43);
+    }
+
+unfoldable pub messageRowAt : List ℕ → ℕ → Message
+messageRowAt b i =
+    record {
+      from = getD b (i + 1) 0;
+      to = getD b (i + 2) 0;
+      body =
+          record {
+            kind = getD b i 0;
+            first = u16At b (i + 3);
+            second = u16At b (i + 5);
+            tries = u16At b (i + 7);
+            sequence = sequenceRowAt b (i + 9);
+            pair = pairAt b (i + 40);
+            updates = u16At b (i + 47);
+          };
+    }

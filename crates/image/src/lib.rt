@@ -7,10 +7,11 @@ ghost use Prim.Native.Nat.{_+_, _≤_};
 ghost use lib.ListN.{length};
 ghost use Rattle.rows.specs.Bytes.{placed, fieldsOf, sum};
 ghost use Rattle.views.specs.Row.{viewsOf};
-ghost use Rattle.rules.specs.Image.{sequenceBytes, sequenceAt, pairAt, headBytes, generatorBytes, generatorAt};
-ghost use Rattle.rules.specs.Image.{transferBytes, transferAt, phaseNumber, phaseOf, deskBytes, deskAt, rowBytes, rowAt};
+ghost use Rattle.rules.specs.Image.{sequenceBytes, pairAt, headBytes, generatorBytes};
+ghost use Rattle.rules.specs.Image.{transferBytes, phaseNumber, phaseOf, deskBytes, deskAt, rowBytes};
 ghost use Rattle.state.specs.Meaning.{notesOf, generatorOf, transferOf, relayOf};
-ghost use Rattle.image.specs.Parts.{notesBytes, notesAt, headAt, messageRow};
+ghost use Rattle.image.specs.Parts.{notesBytes, headAt, messageRow};
+ghost use Rattle.image.specs.Parts.{sequenceRowAt, notesRowAt, generatorRowAt, transferRowAt, messageRowAt};
 use rules::Desk;
 use rules::Phase;
 use stamps::Pair;
@@ -45,7 +46,7 @@ pub const PLACES: usize = 43776;
 pub const PLACE: usize = 80;
 
 pub fn sequence_at(s: &[u8], at: usize) -> Sequence
-    ensures { λ r. ⌜ viewsOf r ≡ sequenceAt (now (s .entry)) at ⌝ }
+    ensures { λ r. ⌜ r ≡ sequenceRowAt (now (s .entry)) at ⌝ }
 {
     let a = rows::smaller(at, s.len());
     let mut views = [0u16; 15];
@@ -148,7 +149,7 @@ pub fn put_head(s: &mut [u8], at: usize, h: Head)
 }
 
 pub fn notes_at(s: &[u8], at: usize) -> Notes
-    ensures { λ r. ⌜ notesOf r ≡ notesAt (now (s .entry)) at ⌝ }
+    ensures { λ r. ⌜ r ≡ notesRowAt (now (s .entry)) at ⌝ }
 {
     let a = rows::smaller(at, s.len());
     let mut of = [views::empty(); 8];
@@ -172,7 +173,7 @@ pub fn put_notes(s: &mut [u8], at: usize, n: Notes)
 }
 
 pub fn generator_at(s: &[u8], at: usize) -> Generator
-    ensures { λ r. ⌜ generatorOf r ≡ generatorAt (now (s .entry)) at ⌝ }
+    ensures { λ r. ⌜ r ≡ generatorRowAt (now (s .entry)) at ⌝ }
 {
     let a = rows::smaller(at, s.len());
     let view = rows::read_u16(s, a);
@@ -219,7 +220,7 @@ pub fn put_generator(s: &mut [u8], at: usize, g: Generator)
 }
 
 pub fn transfer_at(s: &[u8], at: usize) -> Transfer
-    ensures { λ r. ⌜ transferOf r ≡ transferAt (now (s .entry)) at ⌝ }
+    ensures { λ r. ⌜ r ≡ transferRowAt (now (s .entry)) at ⌝ }
 {
     let a = rows::smaller(at, s.len());
     let old = rows::read_u16(s, a);
@@ -336,7 +337,7 @@ pub fn put_desk(s: &mut [u8], at: usize, d: Desk)
 }
 
 pub fn message_at(s: &[u8], at: usize) -> Message
-    ensures { λ r. ⌜ messageRow r ≡ rowAt (now (s .entry)) at ⌝ }
+    ensures { λ r. ⌜ r ≡ messageRowAt (now (s .entry)) at ⌝ }
 {
     let a = rows::smaller(at, s.len());
     let kind = rows::byte_at(s, a);

@@ -41,7 +41,8 @@ pub says-own : (b : Body) → Says (b .sequence) (bodyOf b)
 unfolding bodyOf bodyIn
 says-own b =
     let is = by-kind (Says (b .sequence)) (b .kind) in
-    is 1 _ _ none (is 2 _ _ none (is 3 _ _ refl (is 4 _ _ refl (is 5 _ _ refl (is 6 _ _ none (is 7 _ _ none (is 8 _ _ none (is 9 _ _ none (is 10 _ _ none none)))))))))
+    is 1 _ _ none (is 2 _ _ none (is 3 _ _ refl (is 4 _ _ refl (is 5 _ _ refl
+    (is 6 _ _ none (is 7 _ _ none (is 8 _ _ none (is 9 _ _ none (is 10 _ _ none none)))))))))
 
 pub sent-says : {r : Sending} {n : ℕ} {b : Body} {x : rules.Body} → r ≡ sendTo n b → bodyOf b ≡ x → sendingOf r ≡ record { body = x; receivers = n }
 unfolding sendingOf

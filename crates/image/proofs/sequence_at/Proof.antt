@@ -1,12 +1,12 @@
 -- `image::sequence_at` meets its contract: the views before i are read. Assumes nothing.
 use mathlib.Core.Path.{refl, ap₂, _∙_}
-use Prim.Native.Nat.{_+_, _*_, _-_}
-use lib.ListN.{take}
+use mathlib.Core.List.{List}
+use Prim.Native.Nat.{ℕ, _+_, _*_, _-_}
 use borrow.Author.Needs.{needs}
 use Rattle.rows.specs.Bytes.{u16At}
 use Rattle.rows.proofs.Laws.{Filled, fill-none, fill-more, fill-all}
-use Rattle.views.specs.Row.{viewsOf}
-use Rattle.rules.specs.Image.{sequenceAt}
+use Rattle.views.specs.declared.Sequence.{Sequence}
+use Rattle.image.specs.Parts.{sequenceRowAt}
 use Rattle.image.proofs.Ends.{alike-end, sequence-alike}
 use Rattle.image.proofs.sequence_at.Statement.{statement}
 use Rattle.image.proofs.sequence_at.Tie as tie
@@ -20,14 +20,17 @@ abbrev μ-loop : tie.MeasureT-loop
 loop-again : tie.Need-loop-again Inv-loop μ-loop
 loop-again c = fill-more (c .before .before .loop .inv) (c .before .loop-test .taken) (c .read-u16 .ensures)
 
+abbrev row : List ℕ → ℕ → Sequence
+row views len = record { views = views; len = len }
+
 returns : tie.Need-returns Inv-loop μ-loop
-unfolding viewsOf sequenceAt
+unfolding sequenceRowAt
 returns c =
     let out = c .before in
     let start = out .before .before in
     let a = start .before .before .args in
-    let read = ap₂ take (c .byte-at .ensures) (fill-all (out .before .loop .inv) (out .loop-test .left)) in
-    read ∙ sequence-alike (alike-end (a .s .now) (a .at) _ (start .smaller .ensures))
+    ap₂ row (fill-all (out .before .loop .inv) (out .loop-test .left)) (c .byte-at .ensures)
+    ∙ sequence-alike (alike-end (a .s .now) (a .at) _ (start .smaller .ensures))
 
 pub sequence-at-spec : {M : Type 1} → statement M
 sequence-at-spec =

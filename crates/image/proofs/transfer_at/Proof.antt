@@ -1,13 +1,12 @@
 -- `image::transfer_at` meets its contract. Assumes nothing.
 use borrow.Author.Needs.{needs}
-use Rattle.rules.specs.Image.{transferAt}
-use Rattle.state.specs.Meaning.{transferOf}
+use Rattle.image.specs.Parts.{transferRowAt}
 use Rattle.image.proofs.Ends.{alike-end, transfer-alike}
 use Rattle.image.proofs.transfer_at.Statement.{statement}
 use Rattle.image.proofs.transfer_at.Tie as tie
 
 returns : tie.Need-returns
-unfolding transferOf transferAt
+unfolding transferRowAt
 returns c =
     let start = c .before .before .before .before .before .before in
     let a = start .before .before .args in

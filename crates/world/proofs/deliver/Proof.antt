@@ -10,6 +10,7 @@ use Rattle.rules.specs.Steps as steps
 use Rattle.rules.specs.Image.{worldAt}
 use Rattle.rules.specs.Lent.{left}
 use Rattle.state.specs.Meaning.{messageOf}
+use Rattle.image.proofs.Meaning.{message-read}
 use Rattle.world.proofs.Routes.{place-holds, held-good, held-dead, held-alive, to-below}
 use Rattle.world.proofs.deliver.Statement.{statement}
 use Rattle.world.proofs.deliver.Tie as tie
@@ -18,7 +19,7 @@ use Rattle.world.proofs.deliver.Tie as tie
 held : (c : tie.After-message-at) → let a = c .before .before .before in placeAt (worldAt (a .args .w .now)) (a .args .p) ≡ waiting (messageOf (c .message-at .result))
 held c =
     let a = c .before .before .before in
-    place-holds (a .args .w .now) (a .pre .0) (a .args .p) (a .pre .1 .0) (c .message-at .result) (a .pre .1 .1) (c .message-at .ensures)
+    place-holds (a .args .w .now) (a .pre .0) (a .args .p) (a .pre .1 .0) (c .message-at .result) (a .pre .1 .1) (message-read _ _ (c .message-at .ensures))
 
 below : (c : tie.After-message-at) → c .message-at .result .to < 12
 unfolding messageOf

@@ -8,6 +8,7 @@ use Rattle.rules.specs.WellFormed.{goodPlace}
 use Rattle.rules.specs.State.{waiting}
 use Rattle.state.specs.Meaning.{messageOf}
 use Rattle.image.proofs.Widths.{length-row}
+use Rattle.image.proofs.Meaning.{message-read}
 use Rattle.good.specs.Rows.{held, placeGood}
 use Rattle.good.proofs.Held.{written}
 use Rattle.good.proofs.Tests.{both-fail, both-pass, no, yes}
@@ -19,7 +20,7 @@ abbrev start : tie.After-message-at → tie.Start
 start c = c .before .before .before .before .before
 
 kind : (c : tie.After-message-at) → c .message-at .result .body .kind ≡ c .before .before .before .byte-at .result
-kind c = kind-is _ _ (c .message-at .result) (c .message-at .ensures) ∙ sym (c .before .before .before .byte-at .ensures)
+kind c = kind-is _ _ (c .message-at .result) (message-read _ _ (c .message-at .ensures)) ∙ sym (c .before .before .before .byte-at .ensures)
 
 low : (c : tie.After-message-at) → 1 ≤ c .message-at .result .body .kind
 low c = let f = c .before .before .if1 .left in rw (kind c) (omega arith)
@@ -28,7 +29,7 @@ high : (c : tie.After-message-at) → c .message-at .result .body .kind ≤ 11
 high c = rw (kind c) (c .before .if2 .left)
 
 waits : (c : tie.After-message-at) → let a = start c .args in placeIn (rowAt (a .w .now) (a .at)) ≡ waiting (messageOf (c .message-at .result))
-waits c = place-waits _ _ (c .message-at .result) (c .message-at .ensures) (low c) (high c)
+waits c = place-waits _ _ (c .message-at .result) (message-read _ _ (c .message-at .ensures)) (low c) (high c)
 
 returns : tie.Need-returns
 returns c =

@@ -10,6 +10,7 @@ use Rattle.rules.specs.State.{Transfer}
 use Rattle.rules.specs.Image.{transferAt}
 use Rattle.state.specs.Meaning.{transferOf}
 use Rattle.rules.proofs.Lists.{map-set}
+use Rattle.image.proofs.Meaning.{transfer-read}
 use Rattle.world.proofs.Kept.{KeptTo, kept-none, kept-yes, kept-no, kept-all}
 use Rattle.world.proofs.writes.kept_transfers.Statement.{statement}
 use Rattle.world.proofs.writes.kept_transfers.Tie as tie
@@ -27,7 +28,9 @@ is-inside : (c : tie.After-inside Inv-loop μ-loop)
     → let a = c .before .before .before .before .before .before .args in
     c .inside .result ≡ inside (a .v) (transferAt (a .w .now) (a .at + c .before .before .before .loop .i * 80) .new)
 unfolding transferOf
-is-inside c = c .inside .ensures ∙ ap (λ (t : Transfer). inside (c .before .before .before .before .before .before .args .v) (t .new)) (c .before .transfer-at .ensures)
+is-inside c =
+    let v = c .before .before .before .before .before .before .args .v in
+    c .inside .ensures ∙ ap (λ (t : Transfer). inside v (t .new)) (transfer-read _ _ (c .before .transfer-at .ensures))
 
 small : (c : tie.Then1 Inv-loop μ-loop) → c .before .before .before .before .loop .n < 8
 small c =
@@ -41,7 +44,7 @@ loop-again c =
     let l = read .before .before .loop .inv in
     let h = read .before .loop-test .taken in
     ⊎-elim
-    (λ w. rw (w .1, w .2, map-set) (kept-yes l h _ (read .transfer-at .ensures) (sym (is-inside (c .before)) ∙ w .0 .taken)))
+    (λ w. rw (w .1, w .2, map-set) (kept-yes l h _ (transfer-read _ _ (read .transfer-at .ensures)) (sym (is-inside (c .before)) ∙ w .0 .taken)))
     (λ w. rw (w .1, w .2) (kept-no l h (sym (is-inside (c .before)) ∙ w .0 .left)))
     (c .if1 .came)
 
