@@ -240,8 +240,8 @@ module _ (mask : ℕ) (ks : List Step) (some : 0 < mask) (byte : mask < 256) (fe
   counted-small : Small (sum sentBy os) (sum deliveredBy os) (sum droppedBy os) waits
   counted-small =
       let w : waits ≤ 256 = omega (arith, places-all (lastWorld (start mask) ks .places), good-facts (lastWorld (start mask) ks) (always-good mask some byte ks) .many) in
-      let few = run-few (start mask) ks in
-      record { first = omega (arith, sent-is-sum mask ks, few, w); second = omega (arith, few); third = omega (arith, few); fourth = omega (arith, w) }
+      let moves = run-few (start mask) ks in
+      record { first = omega (arith, sent-is-sum mask ks, moves, w); second = omega (arith, moves); third = omega (arith, moves); fourth = omega (arith, w) }
 
   -- a record of these steps that is the promised one has the counted totals, whatever bytes stand after it
   pub totals-tied : (sent delivered dropped waiting : ℕ) (t u : List ℕ) → Small sent delivered dropped waiting
