@@ -30,7 +30,8 @@ use Rattle.record.proofs.Laying.{laid-whole}
 use Rattle.record.proofs.Whole.{printed-is}
 use Rattle.world.specs.Answer.{lentOf, columns}
 use Rattle.world.specs.declared.Answer.{Answer}
-use Rattle.world.specs.Playing.{ruled as ruling, laidBy, recordLeft}
+use Rattle.world.specs.Playing.{decided, laidBy, recordLeft}
+use Rattle.certificate.specs.Demand2.{outcomeLine}
 use Rattle.certificate.proofs.Differ.{differ, entry}
 use Rattle.certificate.proofs.EndLine.{Small, end-read}
 use Rattle.certificate.proofs.Worlds.{one, one-formed, one-good, write, deliver, step-of}
@@ -152,10 +153,6 @@ unfoldable pub told : Program → ℕ → List ℕ → List Step → List (List 
 told f n w [] = []
 told f n w (k ∷ ks) = columns (f .answers n w k) ∷ told f (suc n) (f .leaves n w k) ks
 
--- the same of an outcome of the rules
-abbrev pub ruled : Outcome → List ℕ
-ruled o = answer o ∷ fields (report o .event) (report o .who)
-
 abbrev saying : Lent → List ℕ
 saying l = l .answer ∷ fields (l .report .event) (l .report .who)
 
@@ -164,7 +161,7 @@ module _ (W : World) where
   left-buffer (refusal x) = refl
   left-buffer (done next e a b c) = refl
 
-  left-saying : (o : Outcome) → saying (left (image W) o) ≡ ruled o
+  left-saying : (o : Outcome) → saying (left (image W) o) ≡ outcomeLine o
   left-saying (refusal x) = refl
   left-saying (done next e a b c) = refl
 
@@ -173,13 +170,13 @@ module _ (f : Program) (n : ℕ) (promised : PromisedAt f n) (W : World) (good :
   unfolding lentOf
   leaves-is = ap buffer (promised (image W) k ∙ step-of W good k) ∙ left-buffer W (stepped W k)
 
-  answers-is : columns (f .answers n (image W) k) ≡ ruled (stepped W k)
+  answers-is : columns (f .answers n (image W) k) ≡ outcomeLine (stepped W k)
   unfolding lentOf columns
   answers-is = ap saying (promised (image W) k ∙ step-of W good k) ∙ left-saying W (stepped W k)
 
 -- after any steps from any good world the buffer is the image of the rules' last world, and each answer is that of the rules
 pub each-step : (f : Program) → Promised f → (n : ℕ) (W : World) → wellFormed W ≡ true → (ks : List Step)
-    → (ran f n (image W) ks ≡ image (lastWorld W ks)) × (told f n (image W) ks ≡ map ruled (outcomes W ks))
+    → (ran f n (image W) ks ≡ image (lastWorld W ks)) × (told f n (image W) ks ≡ map outcomeLine (outcomes W ks))
 unfolding ran told lastWorld outcomes
 each-step f promised n W good [] = (refl, refl)
 each-step f promised n W good (k ∷ ks) =
@@ -210,7 +207,7 @@ show-in-a-run f promised idle e =
 -- what `world::run::rehearse` promises to leave in a buffer with room is the record, and the bytes past it as they were
 pub record-promised : (b world out : List ℕ) (mask : ℕ) (ks : List Step) → length world ≡ 65536 → sheetIn b ≡ sheet mask ks → longest (length ks) ≤ length out
     → recordLeft b world out ≡ printed mask ks ++ drop (length (printed mask ks)) out
-unfolding recordLeft ruling laidBy
+unfolding recordLeft decided laidBy
 record-promised b world out mask ks long e fits = rw (long, e, le-ltb (length out) (longest (length ks)) fits)
 
 -- the totals of the promised record are sums over the steps taken, and what waits in the last world

@@ -38,12 +38,11 @@ use Rattle.sheet.proofs.Back.{again, back, smalls}
 use Rattle.world.specs.declared.Answer.{Answer}
 use Rattle.world.specs.declared.run.Rehearsed.{Rehearsed}
 use Rattle.world.specs.Answer.{lentOf, columns, reportOf}
-use Rattle.world.specs.Playing.{Ruling, bad-world, bad-sheet, no-room, runs, roomFor, answerBy, laidBy, worldBy, rehearseAnswer, worldLeft, recordLeft}
-use Rattle.world.specs.Playing.{ruled as ruledSheet, numberOf as numberBy}
+use Rattle.world.specs.Playing.{Ruling, bad-world, bad-sheet, no-room, runs, roomFor, decided, numberBy, answerBy, laidBy, worldBy, rehearseAnswer, worldLeft, recordLeft}
 use Rattle.certificate.specs.Code.{Code, Promised}
 use Rattle.certificate.specs.Demand1.{Rows, BAD-SHEET, stepRows, startRows, checkRows, writeRows, rehearseRows, Numbered, badLaid, checkNumber, Demand1ForAll}
 use Rattle.certificate.specs.Demand2.{ranBy, toldBy, before, readFrom, readBy, Below, Demand2ForAll}
-use Rattle.certificate.specs.Demand2.{ruled as ruledLine}
+use Rattle.certificate.specs.Demand2.{outcomeLine}
 use Rattle.certificate.proofs.Demand2.{Program, ran, told, each-step}
 
 -- what demand 1 says of what is left of a world's buffer
@@ -201,11 +200,11 @@ module _ (w out : List ℕ) where
 
 module _ (b w out : List ℕ) where
   -- by the world's length, the sheet, and the room
-  abbrev ruledBy : Bool → Sheet → Ruling
-  ruledBy long s = if long then roomFor (length out) s else bad-world
+  abbrev decidedBy : Bool → Sheet → Ruling
+  decidedBy long s = if long then roomFor (length out) s else bad-world
 
-  rehearse-first : numberBy (ruledSheet b w out) ≡ firstOf (rehearseRows b w out)
-  unfolding ruledSheet
+  rehearse-first : numberBy (decided b w out) ≡ firstOf (rehearseRows b w out)
+  unfolding decided
   rehearse-first = go (eqb (length w) 65536) (sheetIn b) refl
     where
       room : (mask : ℕ) (ks : List Step) (n : ℕ) → n ≡ length ks → numberBy (roomFor (length out) (sheet mask ks)) ≡ firstOf ((ltb (length out) (longest n), number refusals.no-room) ∷ [])
@@ -216,14 +215,14 @@ module _ (b w out : List ℕ) where
           pick false = refl
 
       go : (x : Bool) (s : Sheet) → sheetIn b ≡ s
-          → numberBy (ruledBy x s) ≡ firstOf ((not x, number refusals.bad-world) ∷ (badSheet b, BAD-SHEET) ∷ (ltb (length out) (longest (stepsOf b)), number refusals.no-room) ∷ [])
+          → numberBy (decidedBy x s) ≡ firstOf ((not x, number refusals.bad-world) ∷ (badSheet b, BAD-SHEET) ∷ (ltb (length out) (longest (stepsOf b)), number refusals.no-room) ∷ [])
       go true bad e = rw (sheet-bad b e)
       go true (sheet mask ks) e = let a = accepted b mask ks e in rw (a .good) (room mask ks (stepsOf b) (count b mask ks a))
       go false s e = refl
 
   -- where it is run, it is this sheet
-  rehearse-runs : (mask : ℕ) (ks : List Step) → sheetIn b ≡ sheet mask ks → numberBy (ruledSheet b w out) ≡ 0 → ruledSheet b w out ≡ runs mask ks
-  unfolding ruledSheet
+  rehearse-runs : (mask : ℕ) (ks : List Step) → sheetIn b ≡ sheet mask ks → numberBy (decided b w out) ≡ 0 → decided b w out ≡ runs mask ks
+  unfolding decided
   rehearse-runs mask ks e h = rw e (go (eqb (length w) 65536) (ltb (length out) (longest (length ks))) (rw e at h))
     where
       go : (x y : Bool) → numberBy (if x then (if y then no-room else runs mask ks) else bad-world) ≡ 0 → (if x then (if y then no-room else runs mask ks) else bad-world) ≡ runs mask ks
@@ -270,12 +269,12 @@ module _ (c : Code) (p : Promised c) where
   told-same n w (k ∷ ks) = ap (λ (l : List (List ℕ)). columns (c .step w k) ∷ l) (told-same (suc n) (c .step-world w k) ks)
 
   abbrev Follows : List ℕ → World → List Step → Type 0
-  Follows w W ks = (ranBy c w ks ≡ image (lastWorld W ks)) × (toldBy c w ks ≡ map ruledLine (outcomes W ks))
+  Follows w W ks = (ranBy c w ks ≡ image (lastWorld W ks)) × (toldBy c w ks ≡ map outcomeLine (outcomes W ks))
 
   run-of : (W : World) → wellFormed W ≡ true → (ks : List Step) → Follows (image W) W ks
   unfolding calls
   run-of W good ks =
-      let e = each-step calls (λ n w k. p .step w k) 0 W good ks in
+      let e = each-step calls (λ n w k. p .step-kept w k) 0 W good ks in
       (sym (ran-same 0 (image W) ks) ∙ e .0, sym (told-same 0 (image W) ks) ∙ e .1)
 
   run-good : (w : List ℕ) → goodBytes w ≡ true → (ks : List Step) → Follows w (worldAt w) ks
@@ -283,7 +282,7 @@ module _ (c : Code) (p : Promised c) where
 
   started : (w : List ℕ) (mask : ℕ) → c .start w mask .number ≡ 0 → (0 < mask) × (mask < 256) × (c .start-world w mask ≡ image (start mask))
   started w mask h =
-      let e = p .start w mask in
+      let e = p .start-kept w mask in
       let a = start-accepted w mask (sym (says-number _ _ _ e) ∙ h) in
       (a .0, a .1, says-buffer _ _ _ e ∙ a .2)
 
@@ -295,31 +294,31 @@ module _ (c : Code) (p : Promised c) where
   taken : (w : List ℕ) (k : Step) → c .step w k .number ≡ 0
       → (goodBytes w ≡ true) × (c .step-world w k ≡ image (after (worldAt w) (stepped (worldAt w) k))) × (reportOf (c .step w k .report) ≡ report (stepped (worldAt w) k))
   taken w k h =
-      let e = p .step w k in
+      let e = p .step-kept w k in
       let a = step-accepted w k (sym (says-number _ _ _ e) ∙ h) in
       (a .0, says-buffer _ _ _ e ∙ a .1, says-report _ _ _ e ∙ a .2)
 
   -- ---- a rehearsal
 
   module _ (b world out : List ℕ) where
-    rehearse-number : c .rehearse b world out .answer ≡ numberBy (ruledSheet b world out)
+    rehearse-number : c .rehearse b world out .answer ≡ numberBy (decided b world out)
     unfolding rehearseAnswer answerBy
     rehearse-number = ap (λ (r : Rehearsed). r .answer) (p .rehearse-answer b world out)
 
     rehearse-numbered : Numbered (c .rehearse b world out .answer) (rehearseRows b world out)
-    rehearse-numbered = rw rehearse-number (record { known = ruling-known world out (ruledSheet b world out); first = rehearse-first b world out })
+    rehearse-numbered = rw rehearse-number (record { known = ruling-known world out (decided b world out); first = rehearse-first b world out })
 
     module _ (h : 0 < c .rehearse b world out .answer) where
-      refused : 0 < numberBy (ruledSheet b world out)
+      refused : 0 < numberBy (decided b world out)
       refused = omega (arith, rehearse-number)
 
       rehearse-world-kept : c .rehearse-world b world out ≡ world
       unfolding worldLeft
-      rehearse-world-kept = p .rehearse-last b world out ∙ ruling-world world out (ruledSheet b world out) refused
+      rehearse-world-kept = p .rehearse-last b world out ∙ ruling-world world out (decided b world out) refused
 
       rehearse-out-kept : c .rehearse-out b world out ≡ (if eqb (c .rehearse b world out .answer) BAD-SHEET then badLaid out else out)
       unfolding recordLeft
-      rehearse-out-kept = rw rehearse-number (p .rehearse-printed b world out ∙ ruling-out world out (ruledSheet b world out) refused)
+      rehearse-out-kept = rw rehearse-number (p .rehearse-printed b world out ∙ ruling-out world out (decided b world out) refused)
 
     rehearsed : (mask : ℕ) (ks : List Step) → sheetIn b ≡ sheet mask ks → c .rehearse b world out .answer ≡ 0
         → (c .rehearse b world out .length ≡ length (printed mask ks))
@@ -349,9 +348,9 @@ module _ (c : Code) (p : Promised c) where
 
       go : (f : Found) → c .read-at b at .found ≡ f → (length (stepsFrom b past) ≤ n → readFrom c n b past ≡ stepsFrom b past) → before f (readFrom c n b past) ≡ stepsFrom b at
       go (At k) e more =
-          let s = taken-step b at (c .read-at b at) (p .read-at b at) k e in
+          let s = taken-step b at (c .read-at b at) (p .read-at-kept b at) k e in
           ap (λ (l : List Step). k ∷ l) (more (omega (arith, ap length s))) ∙ sym s
-      go End e more = sym (taken-end b at (c .read-at b at) (p .read-at b at) e)
+      go End e more = sym (taken-end b at (c .read-at b at) (p .read-at-kept b at) e)
 
   read-sheet : (b : List ℕ) (mask : ℕ) (ks : List Step) → sheetIn b ≡ sheet mask ks → readBy c b ≡ ks
   read-sheet b mask ks e =
@@ -363,7 +362,7 @@ module _ (c : Code) (p : Promised c) where
       → let mask = c .check b .mask in let ks = readBy c b in
       (numberOf (c .write buf mask (kindsOf ks) (idsOf ks) (valuesOf ks)) ≡ 0) × (c .write-buf buf mask (kindsOf ks) (idsOf ks) (valuesOf ks) ≡ b ++ drop (length b) buf)
   sheet-again b buf each h fits =
-      let e = p .check b in
+      let e = p .check-kept b in
       let a = check-accepted b (sym (ap (λ (s : checked.Sheet). s .bad) e) ∙ h) in
       let mask : ℕ = c .check b .mask in
       let ks : List Step = readBy c b in
@@ -407,7 +406,7 @@ module _ (c : Code) (p : Promised c) where
     check-is =
         let a = accepted sent mask steps sent-is in
         let n : stepsOf sent ≡ length kinds = count sent mask steps a ∙ long in
-        p .check sent ∙ rw (a .good) (λ i. record { bad = false; mask = a .masked i; steps = n i })
+        p .check-kept sent ∙ rw (a .good) (λ i. record { bad = false; mask = a .masked i; steps = n i })
 
     sheet-back : (numberOf (c .write buf mask kinds ids values) ≡ 0) × (c .check sent ≡ record { bad = false; mask = mask; steps = length kinds })
         × (kindsOf (readBy c sent) ≡ kinds) × (idsOf (readBy c sent) ≡ ids) × (valuesOf (readBy c sent) ≡ values)
@@ -421,13 +420,13 @@ module _ (c : Code) (p : Promised c) where
 pub demand1 : Demand1ForAll
 demand1 c p =
     record {
-      step = λ w k. numbered _ _ _ (p .step w k) w (stepRows w k) (step-said w k);
-      start = λ w mask. numbered _ _ _ (p .start w mask) w (startRows w mask) (start-said w mask);
-      check = λ b. rw (p .check b) (check-numbered b);
+      step = λ w k. numbered _ _ _ (p .step-kept w k) w (stepRows w k) (step-said w k);
+      start = λ w mask. numbered _ _ _ (p .start-kept w mask) w (startRows w mask) (start-said w mask);
+      check = λ b. rw (p .check-kept b) (check-numbered b);
       write = λ buf mask kinds ids values. rw (p .write-answer buf mask kinds ids values .0) (write-numbered buf mask kinds ids values);
       rehearse = rehearse-numbered c p;
-      step-kept = λ w k. unmoved _ _ _ (p .step w k) w (stepRows w k) (step-said w k);
-      start-kept = λ w mask. unmoved _ _ _ (p .start w mask) w (startRows w mask) (start-said w mask);
+      step-kept = λ w k. unmoved _ _ _ (p .step-kept w k) w (stepRows w k) (step-said w k);
+      start-kept = λ w mask. unmoved _ _ _ (p .start-kept w mask) w (startRows w mask) (start-said w mask);
       write-kept = λ buf mask kinds ids values h.
           p .write-left buf mask kinds ids values ∙ write-kept buf mask kinds ids values (ruled buf mask kinds ids values) (omega (arith, p .write-answer buf mask kinds ids values .0));
       world-kept = rehearse-world-kept c p;

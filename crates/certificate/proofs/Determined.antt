@@ -389,9 +389,9 @@ written-back (Done n) = refl
 written-back NoRoom = refl
 written-back BadSheet = refl
 
-pub sheet-write-answer : (buf : List ℕ) (mask : ℕ) (kinds ids values : List ℕ)
+pub sheet-write-answer : (buf : List ℕ) (mask : ℕ) (kinds ids values : List ℕ) → (buf : List ℕ) (mask : ℕ) (kinds ids values : List ℕ)
     → Determined (λ r. (numberOf r ≡ sheets.number (ruled buf mask kinds ids values)) × (sizeOf r ≡ ruledSize buf mask kinds ids values))
-sheet-write-answer buf mask kinds ids values r s e f =
+sheet-write-answer buf mask kinds ids values buf mask kinds ids values r s e f =
     sym (written-back r) ∙ (λ i. writtenFor ((e .0 ∙ sym (f .0)) i) ((e .1 ∙ sym (f .1)) i)) ∙ written-back s
 
 pub sheet-write-left : (buf : List ℕ) (mask : ℕ) (kinds ids values : List ℕ) → Determined (λ b. b ≡ bufferOf buf (ruled buf mask kinds ids values))
@@ -414,50 +414,50 @@ sheet-read-at sheet at = by-equation (takenAt sheet at)
 
 -- ---- record; the position past the bytes, and the bytes
 
-pub record-put-position : (at x : ℕ) → Determined (λ r. r ≡ past at (x ∷ []))
-record-put-position at x = by-equation (past at (x ∷ []))
+pub record-put-position : (out : List ℕ) (at x : ℕ) → Determined (λ r. r ≡ past at (x ∷ []))
+record-put-position out at x = by-equation (past at (x ∷ []))
 
 pub record-put-bytes : (out : List ℕ) (at x : ℕ) → Determined (λ b. b ≡ laid out at (x ∷ []))
 record-put-bytes out at x = by-equation (laid out at (x ∷ []))
 
-pub record-put-number-position : (at n : ℕ) → Determined (λ r. r ≡ past at (decimal n))
-record-put-number-position at n = by-equation (past at (decimal n))
+pub record-put-number-position : (out : List ℕ) (at n : ℕ) → Determined (λ r. r ≡ past at (decimal n))
+record-put-number-position out at n = by-equation (past at (decimal n))
 
 pub record-put-number-bytes : (out : List ℕ) (at n : ℕ) → Determined (λ b. b ≡ laid out at (decimal n))
 record-put-number-bytes out at n = by-equation (laid out at (decimal n))
 
-pub record-put-line-position : (at : ℕ) (numbers : List ℕ) → Determined (λ r. r ≡ past at (line numbers))
-record-put-line-position at numbers = by-equation (past at (line numbers))
+pub record-put-line-position : (out : List ℕ) (at : ℕ) (numbers : List ℕ) → Determined (λ r. r ≡ past at (line numbers))
+record-put-line-position out at numbers = by-equation (past at (line numbers))
 
 pub record-put-line-bytes : (out : List ℕ) (at : ℕ) (numbers : List ℕ) → Determined (λ b. b ≡ laid out at (line numbers))
 record-put-line-bytes out at numbers = by-equation (laid out at (line numbers))
 
-pub record-put-word-position : (at : ℕ) (word : List ℕ) → Determined (λ r. r ≡ past at word)
-record-put-word-position at word = by-equation (past at word)
+pub record-put-word-position : (out : List ℕ) (at : ℕ) (word : List ℕ) → Determined (λ r. r ≡ past at word)
+record-put-word-position out at word = by-equation (past at word)
 
 pub record-put-word-bytes : (out : List ℕ) (at : ℕ) (word : List ℕ) → Determined (λ b. b ≡ laid out at word)
 record-put-word-bytes out at word = by-equation (laid out at word)
 
-pub record-put-start-position : (mask : ℕ) → Determined (λ r. r ≡ past 0 (startOf mask))
-record-put-start-position mask = by-equation (past 0 (startOf mask))
+pub record-put-start-position : (out : List ℕ) (mask : ℕ) → Determined (λ r. r ≡ past 0 (startOf mask))
+record-put-start-position out mask = by-equation (past 0 (startOf mask))
 
 pub record-put-start-bytes : (out : List ℕ) (mask : ℕ) → Determined (λ b. b ≡ laid out 0 (startOf mask))
 record-put-start-bytes out mask = by-equation (laid out 0 (startOf mask))
 
-pub record-put-step-position : (at number answer event who count desk last : ℕ) → Determined (λ r. r ≡ past at (stepOf number answer event who count desk last))
-record-put-step-position at number answer event who count desk last = by-equation (past at (stepOf number answer event who count desk last))
+pub record-put-step-position : (out : List ℕ) (at number answer event who count desk last : ℕ) → Determined (λ r. r ≡ past at (stepOf number answer event who count desk last))
+record-put-step-position out at number answer event who count desk last = by-equation (past at (stepOf number answer event who count desk last))
 
 pub record-put-step-bytes : (out : List ℕ) (at number answer event who count desk last : ℕ) → Determined (λ b. b ≡ laid out at (stepOf number answer event who count desk last))
 record-put-step-bytes out at number answer event who count desk last = by-equation (laid out at (stepOf number answer event who count desk last))
 
-pub record-put-end-position : (at sent delivered dropped waiting : ℕ) → Determined (λ r. r ≡ past at (endOf sent delivered dropped waiting))
-record-put-end-position at sent delivered dropped waiting = by-equation (past at (endOf sent delivered dropped waiting))
+pub record-put-end-position : (out : List ℕ) (at sent delivered dropped waiting : ℕ) → Determined (λ r. r ≡ past at (endOf sent delivered dropped waiting))
+record-put-end-position out at sent delivered dropped waiting = by-equation (past at (endOf sent delivered dropped waiting))
 
 pub record-put-end-bytes : (out : List ℕ) (at sent delivered dropped waiting : ℕ) → Determined (λ b. b ≡ laid out at (endOf sent delivered dropped waiting))
 record-put-end-bytes out at sent delivered dropped waiting = by-equation (laid out at (endOf sent delivered dropped waiting))
 
-pub record-put-bad-position : Determined (λ r. r ≡ past 0 badOf)
-record-put-bad-position = by-equation (past 0 badOf)
+pub record-put-bad-position : (out : List ℕ) → Determined (λ r. r ≡ past 0 badOf)
+record-put-bad-position out = by-equation (past 0 badOf)
 
 pub record-put-bad-bytes : (out : List ℕ) → Determined (λ b. b ≡ laid out 0 badOf)
 record-put-bad-bytes out = by-equation (laid out 0 badOf)
@@ -526,14 +526,14 @@ engine-world-start-answer w mask = by-equation (lentStart w mask .answer)
 pub engine-world-start-buffer : (w : List ℕ) (mask : ℕ) → Determined (λ b. b ≡ lentStart w mask .buffer)
 engine-world-start-buffer w mask = by-equation (lentStart w mask .buffer)
 
-pub engine-world-step-answer : (w told : List ℕ) (kind id value : ℕ) → Determined (λ r. r ≡ toldStep w kind id value told .answer)
-engine-world-step-answer w told kind id value = by-equation (toldStep w kind id value told .answer)
+pub engine-world-step-answer : (w : List ℕ) (kind id value : ℕ) (told : List ℕ) → Determined (λ r. r ≡ toldStep w kind id value told .answer)
+engine-world-step-answer w kind id value told = by-equation (toldStep w kind id value told .answer)
 
-pub engine-world-step-buffer : (w told : List ℕ) (kind id value : ℕ) → Determined (λ b. b ≡ toldStep w kind id value told .buffer)
-engine-world-step-buffer w told kind id value = by-equation (toldStep w kind id value told .buffer)
+pub engine-world-step-buffer : (w : List ℕ) (kind id value : ℕ) (told : List ℕ) → Determined (λ b. b ≡ toldStep w kind id value told .buffer)
+engine-world-step-buffer w kind id value told = by-equation (toldStep w kind id value told .buffer)
 
-pub engine-world-step-columns : (w told : List ℕ) (kind id value : ℕ) → Determined (λ b. b ≡ toldStep w kind id value told .told)
-engine-world-step-columns w told kind id value = by-equation (toldStep w kind id value told .told)
+pub engine-world-step-columns : (w : List ℕ) (kind id value : ℕ) (told : List ℕ) → Determined (λ b. b ≡ toldStep w kind id value told .told)
+engine-world-step-columns w kind id value told = by-equation (toldStep w kind id value told .told)
 
 pub engine-sheet-check : (sheet : List ℕ) → Determined (λ r. r ≡ sheetNumber sheet)
 engine-sheet-check sheet = by-equation (sheetNumber sheet)
@@ -542,7 +542,7 @@ pub engine-sheet-write-answer : (buf : List ℕ) (mask : ℕ) (kinds ids values 
 engine-sheet-write-answer buf mask kinds ids values = by-equation (sheets.number (ruled buf mask kinds ids values))
 
 pub engine-sheet-write-left : (buf : List ℕ) (mask : ℕ) (kinds ids values : List ℕ) → Determined (λ b. b ≡ bufferOf buf (ruled buf mask kinds ids values))
-engine-sheet-write-left = sheet-write-left
+engine-sheet-write-left buf mask kinds ids values = sheet-write-left buf mask kinds ids values
 
 pub engine-sheet-rehearse-answer : (sheet world out told : List ℕ) → Determined (λ r. r ≡ toldRehearsal sheet world out told .answer)
 engine-sheet-rehearse-answer sheet world out told = by-equation (toldRehearsal sheet world out told .answer)

@@ -3,7 +3,7 @@ use mathlib.Core.Path.{_≡_}
 use mathlib.Core.Bool.{true, false, not, _&&_}
 use mathlib.Core.List.{List, [], _∷_, _++_}
 use Prim.Native.Nat.{ℕ, _+_, _-_, _*_, _/_, _%_}
-use lib.Dec.{eqb, leb, ltb}
+use lib.Dec.{T, eqb, leb, ltb}
 use lib.ListN.{length, getD, set, take, drop, replicate}
 use denote.Ref.{RefT, now}
 use Rattle.rows.specs.Bytes.{numberAt, run, zeros}
@@ -21,6 +21,7 @@ use Rattle.sheet.specs.declared.Written.{Written}
 use Rattle.sheet.specs.declared.Written.the-variants.{Done, BadSheet, NoRoom}
 use Rattle.record.specs.Lines.{laid, past, stepOf}
 use Rattle.certificate.proofs.Differ.{differ, itself, truth, entry}
+use Rattle.certificate.proofs.Typed.{in-bytes, in-u16, in-u32, in-u32s, in-u8, in-usize, in-Reader}
 
 -- ---- sheet
 
@@ -28,13 +29,14 @@ abbrev isBad : Sheet → ℕ
 isBad s = truth (s .bad)
 
 -- a sheet that would be good with mask 1
-pub sheet-check-mask-0-accepted : ¬ ((b : List ℕ) → (if eqb (getD b 5 0) 0 && not (badSheet (set b 5 1)) then record { bad = false; mask = 0; steps = stepsOf b } else checkOf b) ≡ checkOf b)
+pub sheet-check-mask-0-accepted : ¬ ((b : List ℕ) → T (in-bytes b)
+    → (if eqb (getD b 5 0) 0 && not (badSheet (set b 5 1)) then record { bad = false; mask = 0; steps = stepsOf b } else checkOf b) ≡ checkOf b)
 unfolding allZerosIn checkOf
-sheet-check-mask-0-accepted p = differ isBad (p (mark ++ (0 ∷ []))) tt
+sheet-check-mask-0-accepted p = differ isBad (p (mark ++ (0 ∷ [])) tt) tt
 
-pub sheet-check-refused-always : ¬ ((b : List ℕ) → record { bad = true; mask = 0; steps = 0 } ≡ checkOf b)
+pub sheet-check-refused-always : ¬ ((b : List ℕ) → T (in-bytes b) → record { bad = true; mask = 0; steps = 0 } ≡ checkOf b)
 unfolding allZerosIn checkOf
-sheet-check-refused-always p = differ isBad (p (mark ++ (1 ∷ []))) tt
+sheet-check-refused-always p = differ isBad (p (mark ++ (1 ∷ [])) tt) tt
 
 abbrev found : Found → ℕ
 found End = 0
@@ -44,25 +46,26 @@ found (At k) = 1 + k .value
 abbrev steps : List ℕ
 steps = 5 ∷ 0 ∷ 0 ∷ 0 ∷ 0 ∷ 0 ∷ 0 ∷ 1 ∷ 5 ∷ 0 ∷ 0 ∷ 0 ∷ 0 ∷ 0 ∷ 0 ∷ 2 ∷ []
 
-pub sheet-step-at-the-front-always : ¬ ((b : List ℕ) (at : ℕ) → stepAt b 0 ≡ stepAt b at)
+pub sheet-step-at-the-front-always : ¬ ((b : List ℕ) (at : ℕ) → T (in-bytes b) → T (in-usize at) → stepAt b 0 ≡ stepAt b at)
 unfolding stepAt numberAt
-sheet-step-at-the-front-always p = differ found (p steps 8) tt
+sheet-step-at-the-front-always p = differ found (p steps 8 tt tt) tt
 
-pub sheet-step-at-low-byte-first : ¬ ((b : List ℕ) (at : ℕ) → (if leb (at + 8) (length b) then At (record { kind = getD b at 0; id = getD b (at + 1) 0; value = ((getD b (at + 7) 0 * 256 + getD b (at + 6) 0) * 256 + getD b (at + 5) 0) * 256 + getD b (at + 4) 0 }) else End) ≡ stepAt b at)
+pub sheet-step-at-low-byte-first : ¬ ((b : List ℕ) (at : ℕ) → T (in-bytes b) → T (in-usize at)
+    → (if leb (at + 8) (length b) then At (record { kind = getD b at 0; id = getD b (at + 1) 0; value = ((getD b (at + 7) 0 * 256 + getD b (at + 6) 0) * 256 + getD b (at + 5) 0) * 256 + getD b (at + 4) 0 }) else End) ≡ stepAt b at)
 unfolding stepAt numberAt
-sheet-step-at-low-byte-first p = differ found (p steps 0) tt
+sheet-step-at-low-byte-first p = differ found (p steps 0 tt tt) tt
 
-pub sheet-step-at-past-the-end : ¬ ((b : List ℕ) (at : ℕ) → At (stepIn (drop at b)) ≡ stepAt b at)
+pub sheet-step-at-past-the-end : ¬ ((b : List ℕ) (at : ℕ) → T (in-bytes b) → T (in-usize at) → At (stepIn (drop at b)) ≡ stepAt b at)
 unfolding stepAt numberAt
-sheet-step-at-past-the-end p = differ found (p steps 16) tt
+sheet-step-at-past-the-end p = differ found (p steps 16 tt tt) tt
 
-pub sheet-after-stays : ¬ ((b : List ℕ) (at : ℕ) → at ≡ afterOf b at)
+pub sheet-after-stays : ¬ ((b : List ℕ) (at : ℕ) → T (in-bytes b) → T (in-usize at) → at ≡ afterOf b at)
 unfolding afterOf
-sheet-after-stays p = differ itself (p steps 0) tt
+sheet-after-stays p = differ itself (p steps 0 tt tt) tt
 
-pub sheet-after-past-the-end : ¬ ((b : List ℕ) (at : ℕ) → at + 8 ≡ afterOf b at)
+pub sheet-after-past-the-end : ¬ ((b : List ℕ) (at : ℕ) → T (in-bytes b) → T (in-usize at) → at + 8 ≡ afterOf b at)
 unfolding afterOf
-sheet-after-past-the-end p = differ itself (p steps 16) tt
+sheet-after-past-the-end p = differ itself (p steps 16 tt tt) tt
 
 -- programs that answer as for the list, which is as long as the shortest of the three
 abbrev sizes : ℕ → List ℕ → List ℕ → List ℕ → ℕ
@@ -76,44 +79,41 @@ shortest buf mask kinds ids values =
 abbrev roomFirst : List ℕ → ℕ → List ℕ → List ℕ → List ℕ → Written
 roomFirst buf mask kinds ids values = if ltb (length buf) (sizes mask kinds ids values) then NoRoom else shortest buf mask kinds ids values
 
-pub sheet-write-answer-done-always : ¬ ((buf : List ℕ) (mask : ℕ) (kinds ids values : List ℕ)
-    → (numberOf (Done (sizes mask kinds ids values)) ≡ number (ruled buf mask kinds ids values))
-    × (sizeOf (Done (sizes mask kinds ids values)) ≡ ruledSize buf mask kinds ids values))
+pub sheet-write-answer-done-always : ¬ ((buf : List ℕ) (mask : ℕ) (kinds ids values : List ℕ) → T (in-bytes buf) → T (in-u8 mask) → T (in-bytes kinds) → T (in-bytes ids) → T (in-u32s values)
+    → (numberOf (Done (sizes mask kinds ids values)) ≡ number (ruled buf mask kinds ids values)) × (sizeOf (Done (sizes mask kinds ids values)) ≡ ruledSize buf mask kinds ids values))
 unfolding stepsBytes sheetBytes written listed ruled
-sheet-write-answer-done-always p = differ itself (p [] 1 [] [] [] .0) tt
+sheet-write-answer-done-always p = differ itself (p [] 1 [] [] [] tt tt tt tt tt .0) tt
 
-pub sheet-write-answer-no-room-before-bad-sheet : ¬ ((buf : List ℕ) (mask : ℕ) (kinds ids values : List ℕ)
-    → (numberOf (roomFirst buf mask kinds ids values) ≡ number (ruled buf mask kinds ids values))
-    × (sizeOf (roomFirst buf mask kinds ids values) ≡ ruledSize buf mask kinds ids values))
+pub sheet-write-answer-no-room-before-bad-sheet : ¬ ((buf : List ℕ) (mask : ℕ) (kinds ids values : List ℕ) → T (in-bytes buf) → T (in-u8 mask) → T (in-bytes kinds) → T (in-bytes ids) → T (in-u32s values)
+    → (numberOf (roomFirst buf mask kinds ids values) ≡ number (ruled buf mask kinds ids values)) × (sizeOf (roomFirst buf mask kinds ids values) ≡ ruledSize buf mask kinds ids values))
 unfolding stepsBytes sheetBytes written listed ruled
-sheet-write-answer-no-room-before-bad-sheet p = differ itself (p [] 0 [] [] [] .0) tt
+sheet-write-answer-no-room-before-bad-sheet p = differ itself (p [] 0 [] [] [] tt tt tt tt tt .0) tt
 
 -- a kind and an id without a value
-pub sheet-write-answer-the-shortest-counts : ¬ ((buf : List ℕ) (mask : ℕ) (kinds ids values : List ℕ)
-    → (numberOf (shortest buf mask kinds ids values) ≡ number (ruled buf mask kinds ids values))
-    × (sizeOf (shortest buf mask kinds ids values) ≡ ruledSize buf mask kinds ids values))
+pub sheet-write-answer-the-shortest-counts : ¬ ((buf : List ℕ) (mask : ℕ) (kinds ids values : List ℕ) → T (in-bytes buf) → T (in-u8 mask) → T (in-bytes kinds) → T (in-bytes ids) → T (in-u32s values)
+    → (numberOf (shortest buf mask kinds ids values) ≡ number (ruled buf mask kinds ids values)) × (sizeOf (shortest buf mask kinds ids values) ≡ ruledSize buf mask kinds ids values))
 unfolding stepsBytes sheetBytes written listed ruled
-sheet-write-answer-the-shortest-counts p = differ itself (p (replicate 7 9) 1 (5 ∷ []) (0 ∷ []) [] .0) tt
+sheet-write-answer-the-shortest-counts p = differ itself (p (replicate 7 9) 1 (5 ∷ []) (0 ∷ []) [] tt tt tt tt tt .0) tt
 
-pub sheet-write-answer-size-of-the-buffer : ¬ ((buf : List ℕ) (mask : ℕ) (kinds ids values : List ℕ)
-    → (numberOf (if ltb (length buf) 6 then NoRoom else Done (length buf)) ≡ number (ruled buf mask kinds ids values))
-    × (sizeOf (if ltb (length buf) 6 then NoRoom else Done (length buf)) ≡ ruledSize buf mask kinds ids values))
+pub sheet-write-answer-size-of-the-buffer : ¬ ((buf : List ℕ) (mask : ℕ) (kinds ids values : List ℕ) → T (in-bytes buf) → T (in-u8 mask) → T (in-bytes kinds) → T (in-bytes ids) → T (in-u32s values)
+    → (numberOf (if ltb (length buf) 6 then NoRoom else Done (length buf)) ≡ number (ruled buf mask kinds ids values)) × (sizeOf (if ltb (length buf) 6 then NoRoom else Done (length buf)) ≡ ruledSize buf mask kinds ids values))
 unfolding stepsBytes sheetBytes written listed ruled ruledSize
-sheet-write-answer-size-of-the-buffer p = differ itself (p (replicate 7 9) 1 [] [] [] .1) tt
+sheet-write-answer-size-of-the-buffer p = differ itself (p (replicate 7 9) 1 [] [] [] tt tt tt tt tt .1) tt
 
-pub sheet-write-left-as-it-was : ¬ ((buf : List ℕ) (mask : ℕ) (kinds ids values : List ℕ) → buf ≡ bufferOf buf (ruled buf mask kinds ids values))
+pub sheet-write-left-as-it-was : ¬ ((buf : List ℕ) (mask : ℕ) (kinds ids values : List ℕ) → T (in-bytes buf) → T (in-u8 mask) → T (in-bytes kinds) → T (in-bytes ids) → T (in-u32s values)
+    → buf ≡ bufferOf buf (ruled buf mask kinds ids values))
 unfolding stepsBytes sheetBytes written listed ruled
-sheet-write-left-as-it-was p = differ (entry 0) (p (replicate 7 9) 1 [] [] []) tt
+sheet-write-left-as-it-was p = differ (entry 0) (p (replicate 7 9) 1 [] [] [] tt tt tt tt tt) tt
 
-pub sheet-write-left-cleared-past-the-sheet : ¬ ((buf : List ℕ) (mask : ℕ) (kinds ids values : List ℕ)
+pub sheet-write-left-cleared-past-the-sheet : ¬ ((buf : List ℕ) (mask : ℕ) (kinds ids values : List ℕ) → T (in-bytes buf) → T (in-u8 mask) → T (in-bytes kinds) → T (in-bytes ids) → T (in-u32s values)
     → laid (zeros (length buf)) 0 (sheetBytes mask (listed kinds ids values)) ≡ bufferOf buf (ruled buf mask kinds ids values))
 unfolding run zeros laid stepsBytes sheetBytes written listed ruled
-sheet-write-left-cleared-past-the-sheet p = differ (entry 6) (p (replicate 7 9) 1 [] [] []) tt
+sheet-write-left-cleared-past-the-sheet p = differ (entry 6) (p (replicate 7 9) 1 [] [] [] tt tt tt tt tt) tt
 
-pub sheet-write-left-the-shortest-written : ¬ ((buf : List ℕ) (mask : ℕ) (kinds ids values : List ℕ)
+pub sheet-write-left-the-shortest-written : ¬ ((buf : List ℕ) (mask : ℕ) (kinds ids values : List ℕ) → T (in-bytes buf) → T (in-u8 mask) → T (in-bytes kinds) → T (in-bytes ids) → T (in-u32s values)
     → bufferOf buf (written buf mask (listed kinds ids values)) ≡ bufferOf buf (ruled buf mask kinds ids values))
 unfolding stepsBytes sheetBytes written listed ruled
-sheet-write-left-the-shortest-written p = differ (entry 0) (p (replicate 7 9) 1 (5 ∷ []) (0 ∷ []) []) tt
+sheet-write-left-the-shortest-written p = differ (entry 0) (p (replicate 7 9) 1 (5 ∷ []) (0 ∷ []) [] tt tt tt tt tt) tt
 
 -- a reader over bytes that stand somewhere, and the sheet of the two steps with mask 1
 abbrev reader : RefT (List ℕ) → ℕ → Reader
@@ -122,119 +122,135 @@ reader bytes at = record { sheet = bytes; at = at }
 abbrev lent : RefT (List ℕ)
 lent = record { ptr = (0, 0); name = 0; now = mark ++ (1 ∷ steps) }
 
-pub sheet-new-before-the-mark : ¬ ((sheet : RefT (List ℕ)) → (reader sheet 0 .sheet ≡ sheet) × (reader sheet 0 .at ≡ 6))
-sheet-new-before-the-mark p = differ itself (p lent .1) tt
+pub sheet-new-before-the-mark : ¬ ((sheet : RefT (List ℕ)) → T (in-bytes (now sheet)) → (reader sheet 0 .sheet ≡ sheet) × (reader sheet 0 .at ≡ 6))
+sheet-new-before-the-mark p = differ itself (p lent tt .1) tt
 
-pub sheet-new-past-the-first-step : ¬ ((sheet : RefT (List ℕ)) → (reader sheet 14 .sheet ≡ sheet) × (reader sheet 14 .at ≡ 6))
-sheet-new-past-the-first-step p = differ itself (p lent .1) tt
+pub sheet-new-past-the-first-step : ¬ ((sheet : RefT (List ℕ)) → T (in-bytes (now sheet)) → (reader sheet 14 .sheet ≡ sheet) × (reader sheet 14 .at ≡ 6))
+sheet-new-past-the-first-step p = differ itself (p lent tt .1) tt
 
-pub sheet-next-the-first-again : ¬ ((r : Reader) → stepAt (now (r .sheet)) 6 ≡ stepAt (now (r .sheet)) (r .at))
+pub sheet-next-the-first-again : ¬ ((r : Reader) → T (in-Reader r) → stepAt (now (r .sheet)) 6 ≡ stepAt (now (r .sheet)) (r .at))
 unfolding stepAt numberAt
-sheet-next-the-first-again p = differ found (p (reader lent 14)) tt
+sheet-next-the-first-again p = differ found (p (reader lent 14) tt) tt
 
-pub sheet-next-the-one-after : ¬ ((r : Reader) → stepAt (now (r .sheet)) (r .at + 8) ≡ stepAt (now (r .sheet)) (r .at))
+pub sheet-next-the-one-after : ¬ ((r : Reader) → T (in-Reader r) → stepAt (now (r .sheet)) (r .at + 8) ≡ stepAt (now (r .sheet)) (r .at))
 unfolding stepAt numberAt
-sheet-next-the-one-after p = differ found (p (reader lent 6)) tt
+sheet-next-the-one-after p = differ found (p (reader lent 6) tt) tt
 
-pub sheet-moved-not-at-all : ¬ ((r : Reader) → (r .sheet ≡ r .sheet) × (r .at ≡ afterOf (now (r .sheet)) (r .at)))
+pub sheet-moved-not-at-all : ¬ ((r : Reader) → T (in-Reader r) → (r .sheet ≡ r .sheet) × (r .at ≡ afterOf (now (r .sheet)) (r .at)))
 unfolding afterOf
-sheet-moved-not-at-all p = differ itself (p (reader lent 6) .1) tt
+sheet-moved-not-at-all p = differ itself (p (reader lent 6) tt .1) tt
 
-pub sheet-moved-past-the-end : ¬ ((r : Reader) → (reader (r .sheet) (r .at + 8) .sheet ≡ r .sheet) × (reader (r .sheet) (r .at + 8) .at ≡ afterOf (now (r .sheet)) (r .at)))
+pub sheet-moved-past-the-end : ¬ ((r : Reader) → T (in-Reader r)
+    → (reader (r .sheet) (r .at + 8) .sheet ≡ r .sheet) × (reader (r .sheet) (r .at + 8) .at ≡ afterOf (now (r .sheet)) (r .at)))
 unfolding afterOf
-sheet-moved-past-the-end p = differ itself (p (reader lent 22) .1) tt
+sheet-moved-past-the-end p = differ itself (p (reader lent 22) tt .1) tt
 
-pub sheet-read-at-the-front-always : ¬ ((sheet : List ℕ) (at : ℕ) → takenAt sheet 0 ≡ takenAt sheet at)
+pub sheet-read-at-the-front-always : ¬ ((sheet : List ℕ) (at : ℕ) → T (in-bytes sheet) → T (in-usize at) → takenAt sheet 0 ≡ takenAt sheet at)
 unfolding stepAt afterOf takenAt numberAt
-sheet-read-at-the-front-always p = differ (λ (t : Taken). found (t .found)) (p steps 8) tt
+sheet-read-at-the-front-always p = differ (λ (t : Taken). found (t .found)) (p steps 8 tt tt) tt
 
-pub sheet-read-at-without-moving : ¬ ((sheet : List ℕ) (at : ℕ) → record { found = stepAt sheet at; at = at } ≡ takenAt sheet at)
+pub sheet-read-at-without-moving : ¬ ((sheet : List ℕ) (at : ℕ) → T (in-bytes sheet) → T (in-usize at)
+    → record { found = stepAt sheet at; at = at } ≡ takenAt sheet at)
 unfolding stepAt afterOf takenAt
-sheet-read-at-without-moving p = differ (λ (t : Taken). t .at) (p steps 0) tt
+sheet-read-at-without-moving p = differ (λ (t : Taken). t .at) (p steps 0 tt tt) tt
 
 -- ---- record; a buffer of 20 bytes
 
 abbrev page : List ℕ
 page = replicate 20 0
 
-pub record-put-position-stays : ¬ ((at x : ℕ) → at ≡ past at (x ∷ []))
-record-put-position-stays p = differ itself (p 0 7) tt
+pub record-put-position-stays : ¬ ((out : List ℕ) (at x : ℕ) → T (in-bytes out) → T (in-usize at) → T (in-u8 x) → at ≡ past at (x ∷ []))
+record-put-position-stays p = differ itself (p [] 0 7 tt tt tt) tt
 
-pub record-put-bytes-one-too-far : ¬ ((out : List ℕ) (at x : ℕ) → laid out (at + 1) (x ∷ []) ≡ laid out at (x ∷ []))
+pub record-put-bytes-one-too-far : ¬ ((out : List ℕ) (at x : ℕ) → T (in-bytes out) → T (in-usize at) → T (in-u8 x)
+    → laid out (at + 1) (x ∷ []) ≡ laid out at (x ∷ []))
 unfolding laid
-record-put-bytes-one-too-far p = differ (entry 0) (p page 0 7) tt
+record-put-bytes-one-too-far p = differ (entry 0) (p page 0 7 tt tt tt) tt
 
-pub record-put-number-position-of-one-digit : ¬ ((at n : ℕ) → at + 1 ≡ past at (decimal n))
+pub record-put-number-position-of-one-digit : ¬ ((out : List ℕ) (at n : ℕ) → T (in-bytes out) → T (in-usize at) → T (in-u32 n) → at + 1 ≡ past at (decimal n))
 unfolding digits
-record-put-number-position-of-one-digit p = differ itself (p 0 12) tt
+record-put-number-position-of-one-digit p = differ itself (p [] 0 12 tt tt tt) tt
 
-pub record-put-number-bytes-last-digit-first : ¬ ((out : List ℕ) (at n : ℕ) → laid out at ((48 + n % 10) ∷ (if ltb n 10 then [] else decimal (n / 10))) ≡ laid out at (decimal n))
+pub record-put-number-bytes-last-digit-first : ¬ ((out : List ℕ) (at n : ℕ) → T (in-bytes out) → T (in-usize at) → T (in-u32 n)
+    → laid out at ((48 + n % 10) ∷ (if ltb n 10 then [] else decimal (n / 10))) ≡ laid out at (decimal n))
 unfolding laid digits
-record-put-number-bytes-last-digit-first p = differ (entry 0) (p page 0 12) tt
+record-put-number-bytes-last-digit-first p = differ (entry 0) (p page 0 12 tt tt tt) tt
 
-pub record-put-number-bytes-leading-zero : ¬ ((out : List ℕ) (at n : ℕ) → laid out at (48 ∷ decimal n) ≡ laid out at (decimal n))
+pub record-put-number-bytes-leading-zero : ¬ ((out : List ℕ) (at n : ℕ) → T (in-bytes out) → T (in-usize at) → T (in-u32 n)
+    → laid out at (48 ∷ decimal n) ≡ laid out at (decimal n))
 unfolding laid digits
-record-put-number-bytes-leading-zero p = differ (entry 0) (p page 0 7) tt
+record-put-number-bytes-leading-zero p = differ (entry 0) (p page 0 7 tt tt tt) tt
 
-pub record-put-line-position-of-one-number : ¬ ((at : ℕ) (numbers : List ℕ) → past at (line (getD numbers 0 0 ∷ [])) ≡ past at (line numbers))
+pub record-put-line-position-of-one-number : ¬ ((out : List ℕ) (at : ℕ) (numbers : List ℕ) → T (in-bytes out) → T (in-usize at) → T (in-u32s numbers)
+    → past at (line (getD numbers 0 0 ∷ [])) ≡ past at (line numbers))
 unfolding digits line
-record-put-line-position-of-one-number p = differ itself (p 0 (7 ∷ 8 ∷ [])) tt
+record-put-line-position-of-one-number p = differ itself (p [] 0 (7 ∷ 8 ∷ []) tt tt tt) tt
 
-pub record-put-line-bytes-without-newline : ¬ ((out : List ℕ) (at : ℕ) (numbers : List ℕ) → laid out at (take (length (line numbers) - 1) (line numbers)) ≡ laid out at (line numbers))
+pub record-put-line-bytes-without-newline : ¬ ((out : List ℕ) (at : ℕ) (numbers : List ℕ) → T (in-bytes out) → T (in-usize at) → T (in-u32s numbers)
+    → laid out at (take (length (line numbers) - 1) (line numbers)) ≡ laid out at (line numbers))
 unfolding laid digits line
-record-put-line-bytes-without-newline p = differ (entry 1) (p page 0 (7 ∷ [])) tt
+record-put-line-bytes-without-newline p = differ (entry 1) (p page 0 (7 ∷ []) tt tt tt) tt
 
-pub record-put-line-bytes-first-number-only : ¬ ((out : List ℕ) (at : ℕ) (numbers : List ℕ) → laid out at (line (getD numbers 0 0 ∷ [])) ≡ laid out at (line numbers))
+pub record-put-line-bytes-first-number-only : ¬ ((out : List ℕ) (at : ℕ) (numbers : List ℕ) → T (in-bytes out) → T (in-usize at) → T (in-u32s numbers)
+    → laid out at (line (getD numbers 0 0 ∷ [])) ≡ laid out at (line numbers))
 unfolding laid digits line
-record-put-line-bytes-first-number-only p = differ (entry 2) (p page 0 (7 ∷ 8 ∷ [])) tt
+record-put-line-bytes-first-number-only p = differ (entry 2) (p page 0 (7 ∷ 8 ∷ []) tt tt tt) tt
 
-pub record-put-word-position-stays : ¬ ((at : ℕ) (word : List ℕ) → at ≡ past at word)
-record-put-word-position-stays p = differ itself (p 0 (97 ∷ [])) tt
+pub record-put-word-position-stays : ¬ ((out : List ℕ) (at : ℕ) (word : List ℕ) → T (in-bytes out) → T (in-usize at) → T (in-bytes word) → at ≡ past at word)
+record-put-word-position-stays p = differ itself (p [] 0 (97 ∷ []) tt tt tt) tt
 
-pub record-put-word-bytes-with-newline : ¬ ((out : List ℕ) (at : ℕ) (word : List ℕ) → laid out at (word ++ (10 ∷ [])) ≡ laid out at word)
+pub record-put-word-bytes-with-newline : ¬ ((out : List ℕ) (at : ℕ) (word : List ℕ) → T (in-bytes out) → T (in-usize at) → T (in-bytes word)
+    → laid out at (word ++ (10 ∷ [])) ≡ laid out at word)
 unfolding laid
-record-put-word-bytes-with-newline p = differ (entry 1) (p page 0 (97 ∷ [])) tt
+record-put-word-bytes-with-newline p = differ (entry 1) (p page 0 (97 ∷ []) tt tt tt) tt
 
-pub record-put-start-bytes-without-the-mask : ¬ ((out : List ℕ) (mask : ℕ) → laid out 0 (start-word ++ line []) ≡ laid out 0 (startOf mask))
+pub record-put-start-bytes-without-the-mask : ¬ ((out : List ℕ) (mask : ℕ) → T (in-bytes out) → T (in-u8 mask)
+    → laid out 0 (start-word ++ line []) ≡ laid out 0 (startOf mask))
 unfolding laid digits line
-record-put-start-bytes-without-the-mask p = differ (entry 6) (p page 7) tt
+record-put-start-bytes-without-the-mask p = differ (entry 6) (p page 7 tt tt) tt
 
-pub record-put-start-position-of-one-digit : ¬ ((mask : ℕ) → 8 ≡ past 0 (startOf mask))
+pub record-put-start-position-of-one-digit : ¬ ((out : List ℕ) (mask : ℕ) → T (in-bytes out) → T (in-u8 mask) → 8 ≡ past 0 (startOf mask))
 unfolding digits line
-record-put-start-position-of-one-digit p = differ itself (p 255) tt
+record-put-start-position-of-one-digit p = differ itself (p [] 255 tt tt) tt
 
-pub record-put-step-position-of-single-digits : ¬ ((at number answer event who count desk last : ℕ) → past at (stepOf 0 0 0 0 0 0 0) ≡ past at (stepOf number answer event who count desk last))
+pub record-put-step-position-of-single-digits : ¬ ((out : List ℕ) (at number answer event who count desk last : ℕ) → T (in-bytes out) → T (in-usize at) → T (in-u32 number) → T (in-u8 answer) → T (in-u8 event) → T (in-u8 who) → T (in-u16 count) → T (in-u8 desk) → T (in-u32 last)
+    → past at (stepOf 0 0 0 0 0 0 0) ≡ past at (stepOf number answer event who count desk last))
 unfolding digits line
-record-put-step-position-of-single-digits p = differ itself (p 0 10 0 0 0 0 0 0) tt
+record-put-step-position-of-single-digits p = differ itself (p [] 0 10 0 0 0 0 0 0 tt tt tt tt tt tt tt tt tt) tt
 
-pub record-put-step-bytes-numbered-from-0 : ¬ ((out : List ℕ) (at number answer event who count desk last : ℕ) → laid out at (stepOf (number - 1) answer event who count desk last) ≡ laid out at (stepOf number answer event who count desk last))
+pub record-put-step-bytes-numbered-from-0 : ¬ ((out : List ℕ) (at number answer event who count desk last : ℕ) → T (in-bytes out) → T (in-usize at) → T (in-u32 number) → T (in-u8 answer) → T (in-u8 event) → T (in-u8 who) → T (in-u16 count) → T (in-u8 desk) → T (in-u32 last)
+    → laid out at (stepOf (number - 1) answer event who count desk last) ≡ laid out at (stepOf number answer event who count desk last))
 unfolding laid digits line
-record-put-step-bytes-numbered-from-0 p = differ (entry 0) (p page 0 1 0 0 0 0 0 0) tt
+record-put-step-bytes-numbered-from-0 p = differ (entry 0) (p page 0 1 0 0 0 0 0 0 tt tt tt tt tt tt tt tt tt) tt
 
-pub record-put-step-bytes-event-for-answer : ¬ ((out : List ℕ) (at number answer event who count desk last : ℕ) → laid out at (stepOf number event answer who count desk last) ≡ laid out at (stepOf number answer event who count desk last))
+pub record-put-step-bytes-event-for-answer : ¬ ((out : List ℕ) (at number answer event who count desk last : ℕ) → T (in-bytes out) → T (in-usize at) → T (in-u32 number) → T (in-u8 answer) → T (in-u8 event) → T (in-u8 who) → T (in-u16 count) → T (in-u8 desk) → T (in-u32 last)
+    → laid out at (stepOf number event answer who count desk last) ≡ laid out at (stepOf number answer event who count desk last))
 unfolding laid digits line
-record-put-step-bytes-event-for-answer p = differ (entry 2) (p page 0 5 0 3 0 1 0 77) tt
+record-put-step-bytes-event-for-answer p = differ (entry 2) (p page 0 5 0 3 0 1 0 77 tt tt tt tt tt tt tt tt tt) tt
 
-pub record-put-end-position-of-single-digits : ¬ ((at sent delivered dropped waiting : ℕ) → past at (endOf 0 0 0 0) ≡ past at (endOf sent delivered dropped waiting))
+pub record-put-end-position-of-single-digits : ¬ ((out : List ℕ) (at sent delivered dropped waiting : ℕ) → T (in-bytes out) → T (in-usize at) → T (in-u32 sent) → T (in-u32 delivered) → T (in-u32 dropped) → T (in-u32 waiting)
+    → past at (endOf 0 0 0 0) ≡ past at (endOf sent delivered dropped waiting))
 unfolding digits line
-record-put-end-position-of-single-digits p = differ itself (p 0 10 10 0 0) tt
+record-put-end-position-of-single-digits p = differ itself (p [] 0 10 10 0 0 tt tt tt tt tt tt) tt
 
-pub record-put-end-bytes-invented : ¬ ((out : List ℕ) (at sent delivered dropped waiting : ℕ) → laid out at (endOf 0 0 0 0) ≡ laid out at (endOf sent delivered dropped waiting))
+pub record-put-end-bytes-invented : ¬ ((out : List ℕ) (at sent delivered dropped waiting : ℕ) → T (in-bytes out) → T (in-usize at) → T (in-u32 sent) → T (in-u32 delivered) → T (in-u32 dropped) → T (in-u32 waiting)
+    → laid out at (endOf 0 0 0 0) ≡ laid out at (endOf sent delivered dropped waiting))
 unfolding laid digits line
-record-put-end-bytes-invented p = differ (entry 4) (p page 0 6 6 0 0) tt
+record-put-end-bytes-invented p = differ (entry 4) (p page 0 6 6 0 0 tt tt tt tt tt tt) tt
 
-pub record-put-end-bytes-dropped-for-delivered : ¬ ((out : List ℕ) (at sent delivered dropped waiting : ℕ) → laid out at (endOf sent dropped delivered waiting) ≡ laid out at (endOf sent delivered dropped waiting))
+pub record-put-end-bytes-dropped-for-delivered : ¬ ((out : List ℕ) (at sent delivered dropped waiting : ℕ) → T (in-bytes out) → T (in-usize at) → T (in-u32 sent) → T (in-u32 delivered) → T (in-u32 dropped) → T (in-u32 waiting)
+    → laid out at (endOf sent dropped delivered waiting) ≡ laid out at (endOf sent delivered dropped waiting))
 unfolding laid digits line
-record-put-end-bytes-dropped-for-delivered p = differ (entry 6) (p page 0 6 6 0 0) tt
+record-put-end-bytes-dropped-for-delivered p = differ (entry 6) (p page 0 6 6 0 0 tt tt tt tt tt tt) tt
 
-pub record-put-bad-position-before-the-newline : ¬ (5 ≡ past 0 badOf)
+pub record-put-bad-position-before-the-newline : ¬ ((out : List ℕ) → T (in-bytes out) → 5 ≡ past 0 badOf)
 unfolding digits line
-record-put-bad-position-before-the-newline p = differ itself p tt
+record-put-bad-position-before-the-newline p = differ itself (p [] tt) tt
 
-pub record-put-bad-bytes-of-another-number : ¬ ((out : List ℕ) → laid out 0 (bad-word ++ line (8 ∷ [])) ≡ laid out 0 badOf)
+pub record-put-bad-bytes-of-another-number : ¬ ((out : List ℕ) → T (in-bytes out) → laid out 0 (bad-word ++ line (8 ∷ [])) ≡ laid out 0 badOf)
 unfolding laid digits line
-record-put-bad-bytes-of-another-number p = differ (entry 4) (p page) tt
+record-put-bad-bytes-of-another-number p = differ (entry 4) (p page tt) tt
 
-pub record-put-bad-bytes-none : ¬ ((out : List ℕ) → out ≡ laid out 0 badOf)
+pub record-put-bad-bytes-none : ¬ ((out : List ℕ) → T (in-bytes out) → out ≡ laid out 0 badOf)
 unfolding laid digits line
-record-put-bad-bytes-none p = differ (entry 0) (p page) tt
+record-put-bad-bytes-none p = differ (entry 0) (p page tt) tt

@@ -3,7 +3,7 @@ use mathlib.Core.Path.{_≡_, sym, ap, _∙_}
 use mathlib.Core.Bool.{Bool, true, false, not, _&&_}
 use mathlib.Core.List.{List, [], _∷_, _++_}
 use Prim.Native.Nat.{ℕ}
-use lib.Dec.{eqb, leb, ltb}
+use lib.Dec.{T, eqb, leb, ltb}
 use lib.ListN.{length, getD, drop, replicate}
 use Rattle.rows.specs.Bytes.{numberAt, splice, placed, bytesOf, be32, run, cat, zeros}
 use Rattle.rules.specs.Sets.{if_then_else_}
@@ -24,21 +24,23 @@ use Rattle.rules.proofs.ImageWorld.{image-injective}
 use Rattle.sheet.specs.Writing.{listed, ruled, bufferOf}
 use Rattle.record.specs.Lines.{laid}
 use Rattle.world.specs.Answer.{reportOf, lentOf}
-use Rattle.world.specs.Playing.{roomFor, ruled, answerBy, laidBy, worldBy, rehearseAnswer, worldLeft, recordLeft}
+use Rattle.world.specs.Playing.{roomFor, decided, answerBy, laidBy, worldBy, rehearseAnswer, worldLeft, recordLeft}
 use Rattle.world.specs.declared.Answer.{Answer}
 use Rattle.world.specs.declared.Report.the-variants.{Nothing, WriteDone}
 use Rattle.world.specs.declared.run.Rehearsed.{Rehearsed}
 use Rattle.engine.specs.Told.{goodNumber, sheetNumber, toldBytes, toldOf, Stepped, telling, toldStep, toldRehearsal}
 use Rattle.certificate.proofs.Differ.{differ, itself, truth, entry}
-use Rattle.certificate.proofs.Worlds.{one, two, one-formed, two-formed, one-good, write, deliver, step-of, start-of, soiled, soiled-long, soiled-bad}
+use Rattle.certificate.proofs.Typed.{in-bytes, in-u32, in-u32s, in-u8, in-Answer, in-Step}
+use Rattle.certificate.proofs.ImageTyped.{image-bytes}
+use Rattle.certificate.proofs.Worlds.{one, two, one-formed, two-formed, one-good, write, deliver, step-of, start-of, soiled, soiled-long, soiled-bad, one-bytes, soiled-bytes, two-bytes}
 
 -- ---- good
 
-pub good-is-good-refused-always : ¬ ((w : List ℕ) → false ≡ goodBytes w)
-good-is-good-refused-always p = differ truth (p one ∙ one-good) tt
+pub good-is-good-refused-always : ¬ ((w : List ℕ) → T (in-bytes w) → false ≡ goodBytes w)
+good-is-good-refused-always p = differ truth (p one one-bytes ∙ one-good) tt
 
-pub good-is-good-by-length-only : ¬ ((w : List ℕ) → eqb (length w) 65536 ≡ goodBytes w)
-good-is-good-by-length-only p = differ truth (sym (ap (λ n. eqb n 65536) soiled-long) ∙ p soiled ∙ soiled-bad) tt
+pub good-is-good-by-length-only : ¬ ((w : List ℕ) → T (in-bytes w) → eqb (length w) 65536 ≡ goodBytes w)
+good-is-good-by-length-only p = differ truth (sym (ap (λ n. eqb n 65536) soiled-long) ∙ p soiled soiled-bytes ∙ soiled-bad) tt
 
 -- ---- world
 
@@ -63,13 +65,13 @@ starts-differ e = differ (λ (w : World). getD (w .relays) 0 noRelay .view) (ima
 buffer-of : {l m : Lent} → l ≡ m → l .buffer ≡ m .buffer
 buffer-of e = ap (λ (l : Lent). l .buffer) e
 
-pub world-step-refused-always : ¬ ((w : List ℕ) (k : Step) → lentOf (replies 1) w ≡ lentStep w k)
+pub world-step-refused-always : ¬ ((w : List ℕ) (k : Step) → T (in-bytes w) → T (in-Step k) → lentOf (replies 1) w ≡ lentStep w k)
 unfolding recorded lentOf
-world-step-refused-always p = differ number (p one write ∙ step-of (start 1) one-formed write) tt
+world-step-refused-always p = differ number (p one write one-bytes tt ∙ step-of (start 1) one-formed write) tt
 
-pub world-step-nothing-changed : ¬ ((w : List ℕ) (k : Step) → lentOf (replies 0) w ≡ lentStep w k)
+pub world-step-nothing-changed : ¬ ((w : List ℕ) (k : Step) → T (in-bytes w) → T (in-Step k) → lentOf (replies 0) w ≡ lentStep w k)
 unfolding recorded lentOf
-world-step-nothing-changed p = write-moves (buffer-of (p one write ∙ step-of (start 1) one-formed write))
+world-step-nothing-changed p = write-moves (buffer-of (p one write one-bytes tt ∙ step-of (start 1) one-formed write))
 
 -- the world in which the next delivery ends a write
 abbrev ending : World
@@ -78,29 +80,31 @@ ending = lastWorld (start 1) (write ∷ deliver ∷ deliver ∷ deliver ∷ [])
 ending-formed : wellFormed ending ≡ true
 ending-formed = run-keeps (start 1) (write ∷ deliver ∷ deliver ∷ deliver ∷ []) one-formed
 
-pub world-step-without-its-report : ¬ ((w : List ℕ) (k : Step) → lentOf (record { number = lentStep w k .answer; report = Nothing }) (lentStep w k .buffer) ≡ lentStep w k)
+pub world-step-without-its-report : ¬ ((w : List ℕ) (k : Step) → T (in-bytes w) → T (in-Step k)
+    → lentOf (record { number = lentStep w k .answer; report = Nothing }) (lentStep w k .buffer) ≡ lentStep w k)
 unfolding recorded lentOf reportOf toldOf
-world-step-without-its-report p = differ (λ (l : Lent). entry 0 (toldOf l)) (p (image ending) deliver ∙ step-of ending ending-formed deliver) tt
+world-step-without-its-report p = differ (λ (l : Lent). entry 0 (toldOf l)) (p (image ending) deliver (image-bytes ending ending-formed) tt ∙ step-of ending ending-formed deliver) tt
 
-pub world-start-in-any-buffer : ¬ ((w : List ℕ) (mask : ℕ) → lentOf (replies 0) (image (start mask)) ≡ lentStart w mask)
+pub world-start-in-any-buffer : ¬ ((w : List ℕ) (mask : ℕ) → T (in-bytes w) → T (in-u8 mask) → lentOf (replies 0) (image (start mask)) ≡ lentStart w mask)
 unfolding lentOf lentStart
-world-start-in-any-buffer p = differ number (p [] 1) tt
+world-start-in-any-buffer p = differ number (p [] 1 tt tt) tt
 
-pub world-start-nothing-changed : ¬ ((w : List ℕ) (mask : ℕ) → lentOf (replies 0) w ≡ lentStart w mask)
+pub world-start-nothing-changed : ¬ ((w : List ℕ) (mask : ℕ) → T (in-bytes w) → T (in-u8 mask) → lentOf (replies 0) w ≡ lentStart w mask)
 unfolding lentOf
-world-start-nothing-changed p = starts-differ (buffer-of (p two 1 ∙ start-of two (length-image (start 2))))
+world-start-nothing-changed p = starts-differ (buffer-of (p two 1 two-bytes tt ∙ start-of two (length-image (start 2))))
 
 -- a write of desk 2 has ended
 abbrev wrote : Answer
 wrote = record { number = 0; report = WriteDone 2 (record { stamp = record { count = 1; desk = 2 }; value = 77 }) }
 
-pub world-columns-of-zeros : ¬ ((a : Answer) → 0 ∷ 0 ∷ 0 ∷ 0 ∷ 0 ∷ [] ≡ fields (reportOf (a .report) .event) (reportOf (a .report) .who))
+pub world-columns-of-zeros : ¬ ((a : Answer) → T (in-Answer a) → 0 ∷ 0 ∷ 0 ∷ 0 ∷ 0 ∷ [] ≡ fields (reportOf (a .report) .event) (reportOf (a .report) .who))
 unfolding reportOf
-world-columns-of-zeros p = differ (entry 0) (p wrote) tt
+world-columns-of-zeros p = differ (entry 0) (p wrote tt) tt
 
-pub world-columns-of-desk-0-always : ¬ ((a : Answer) → fields (reportOf (a .report) .event) 0 ≡ fields (reportOf (a .report) .event) (reportOf (a .report) .who))
+pub world-columns-of-desk-0-always : ¬ ((a : Answer) → T (in-Answer a)
+    → fields (reportOf (a .report) .event) 0 ≡ fields (reportOf (a .report) .event) (reportOf (a .report) .who))
 unfolding reportOf
-world-columns-of-desk-0-always p = differ (entry 1) (p wrote) tt
+world-columns-of-desk-0-always p = differ (entry 1) (p wrote tt) tt
 
 -- a sheet with mask 1 and no step; a page that its record fills, one with room for the record of a step, and one of a byte
 abbrev pub blank : List ℕ
@@ -115,27 +119,28 @@ wide = replicate 70 7
 abbrev narrow : List ℕ
 narrow = 7 ∷ []
 
-pub world-rehearse-answer-done-always : ¬ ((sheet world out : List ℕ) → record { answer = 0; length = length (rehearsed sheet) } ≡ rehearseAnswer sheet world out)
-unfolding rehearseAnswer ruled answerBy
-world-rehearse-answer-done-always p = differ (λ (r : Rehearsed). r .answer) (p blank [] page) tt
+pub world-rehearse-answer-done-always : ¬ ((sheet world out : List ℕ) → T (in-bytes sheet) → T (in-bytes world) → T (in-bytes out)
+    → record { answer = 0; length = length (rehearsed sheet) } ≡ rehearseAnswer sheet world out)
+unfolding rehearseAnswer decided answerBy
+world-rehearse-answer-done-always p = differ (λ (r : Rehearsed). r .answer) (p blank [] page tt tt tt) tt
 
 -- with a world of the right length
 module _ (world : List ℕ) (e : length world ≡ 65536) (sheet out : List ℕ) where
-  ruled-there : ruled sheet world out ≡ roomFor (length out) (sheetIn sheet)
-  unfolding ruled
-  ruled-there = rw e
+  decided-there : decided sheet world out ≡ roomFor (length out) (sheetIn sheet)
+  unfolding decided
+  decided-there = rw e
 
   answered-there : rehearseAnswer sheet world out ≡ answerBy out (roomFor (length out) (sheetIn sheet))
   unfolding rehearseAnswer
-  answered-there = ap (answerBy out) ruled-there
+  answered-there = ap (answerBy out) decided-there
 
   left-there : worldLeft sheet world out ≡ worldBy world (roomFor (length out) (sheetIn sheet))
   unfolding worldLeft
-  left-there = ap (worldBy world) ruled-there
+  left-there = ap (worldBy world) decided-there
 
   printed-there : recordLeft sheet world out ≡ laidBy out (roomFor (length out) (sheetIn sheet))
   unfolding recordLeft
-  printed-there = ap (laidBy out) ruled-there
+  printed-there = ap (laidBy out) decided-there
 
 -- a test of the world's length, where it is right
 long-right : {A : Type 0} (world : List ℕ) → length world ≡ 65536 → (a b : A) → (if eqb (length world) 65536 && true then a else b) ≡ a
@@ -147,65 +152,56 @@ one-long = length-image (start 1)
 abbrev two-long : length two ≡ 65536
 two-long = length-image (start 2)
 
-pub world-rehearse-answer-done-without-room : ¬ ((sheet world out : List ℕ) →
-    (if eqb (length world) 65536 && ltb (length out) (length (rehearsed sheet))
-    then record { answer = 0; length = length (rehearsed sheet) }
-    else rehearseAnswer sheet world out) ≡ rehearseAnswer sheet world out)
+pub world-rehearse-answer-done-without-room : ¬ ((sheet world out : List ℕ) → T (in-bytes sheet) → T (in-bytes world) → T (in-bytes out)
+    → (if eqb (length world) 65536 && ltb (length out) (length (rehearsed sheet)) then record { answer = 0; length = length (rehearsed sheet) } else rehearseAnswer sheet world out) ≡ rehearseAnswer sheet world out)
 unfolding answerBy longest sheetIn stepsIn allZerosIn recorded rehearsed
 world-rehearse-answer-done-without-room p =
-    differ (λ (r : Rehearsed). r .answer) (sym (long-right one one-long _ _) ∙ p blank one [] ∙ answered-there one one-long blank []) tt
+    differ (λ (r : Rehearsed). r .answer) (sym (long-right one one-long _ _) ∙ p blank one [] tt one-bytes tt ∙ answered-there one one-long blank []) tt
 
 -- a record that would just fit, in a buffer that the longest of as many steps does not fit into
-pub world-rehearse-answer-room-by-the-record : ¬ ((sheet world out : List ℕ) →
-    (if eqb (length world) 65536 && leb (length (rehearsed sheet)) (length out)
-    then record { answer = 0; length = length (rehearsed sheet) }
-    else rehearseAnswer sheet world out) ≡ rehearseAnswer sheet world out)
+pub world-rehearse-answer-room-by-the-record : ¬ ((sheet world out : List ℕ) → T (in-bytes sheet) → T (in-bytes world) → T (in-bytes out)
+    → (if eqb (length world) 65536 && leb (length (rehearsed sheet)) (length out) then record { answer = 0; length = length (rehearsed sheet) } else rehearseAnswer sheet world out) ≡ rehearseAnswer sheet world out)
 unfolding answerBy longest sheetIn stepsIn allZerosIn recorded rehearsed
 world-rehearse-answer-room-by-the-record p =
-    differ (λ (r : Rehearsed). r .answer) (sym (long-right one one-long _ _) ∙ p blank one page ∙ answered-there one one-long blank page) tt
+    differ (λ (r : Rehearsed). r .answer) (sym (long-right one one-long _ _) ∙ p blank one page tt one-bytes tt ∙ answered-there one one-long blank page) tt
 
-pub world-rehearse-answer-bad-sheet-done : ¬ ((sheet world out : List ℕ) →
-    (if eqb (length world) 65536 && badSheet sheet
-    then record { answer = 0; length = length badOf }
-    else rehearseAnswer sheet world out) ≡ rehearseAnswer sheet world out)
+pub world-rehearse-answer-bad-sheet-done : ¬ ((sheet world out : List ℕ) → T (in-bytes sheet) → T (in-bytes world) → T (in-bytes out)
+    → (if eqb (length world) 65536 && badSheet sheet then record { answer = 0; length = length badOf } else rehearseAnswer sheet world out) ≡ rehearseAnswer sheet world out)
 unfolding answerBy sheetIn line digits
 world-rehearse-answer-bad-sheet-done p =
-    differ (λ (r : Rehearsed). r .answer) (sym (long-right one one-long _ _) ∙ p [] one page ∙ answered-there one one-long [] page) tt
+    differ (λ (r : Rehearsed). r .answer) (sym (long-right one one-long _ _) ∙ p [] one page tt one-bytes tt ∙ answered-there one one-long [] page) tt
 
-pub world-rehearse-last-as-it-was : ¬ ((sheet world out : List ℕ) → world ≡ worldLeft sheet world out)
+pub world-rehearse-last-as-it-was : ¬ ((sheet world out : List ℕ) → T (in-bytes sheet) → T (in-bytes world) → T (in-bytes out)
+    → world ≡ worldLeft sheet world out)
 unfolding longest line digits sheetIn stepsIn allZerosIn lastWorld
-world-rehearse-last-as-it-was p = starts-differ (p blank two wide ∙ left-there two two-long blank wide)
+world-rehearse-last-as-it-was p = starts-differ (p blank two wide tt two-bytes tt ∙ left-there two two-long blank wide)
 
 -- the steps are run though the record has no room
-pub world-rehearse-last-run-without-room : ¬ ((sheet world out : List ℕ) →
-    (if eqb (length world) 65536 && not (badSheet sheet)
-    then image (lastWorld (start (getD sheet 5 0)) (stepsIn (stepsOf sheet) (drop 6 sheet)))
-    else worldLeft sheet world out) ≡ worldLeft sheet world out)
+pub world-rehearse-last-run-without-room : ¬ ((sheet world out : List ℕ) → T (in-bytes sheet) → T (in-bytes world) → T (in-bytes out)
+    → (if eqb (length world) 65536 && not (badSheet sheet) then image (lastWorld (start (getD sheet 5 0)) (stepsIn (stepsOf sheet) (drop 6 sheet))) else worldLeft sheet world out) ≡ worldLeft sheet world out)
 unfolding longest line digits sheetIn stepsIn allZerosIn lastWorld
-world-rehearse-last-run-without-room p = starts-differ (sym (sym (long-right two two-long _ _) ∙ p blank two narrow ∙ left-there two two-long blank narrow))
+world-rehearse-last-run-without-room p = starts-differ (sym (sym (long-right two two-long _ _) ∙ p blank two narrow tt two-bytes tt ∙ left-there two two-long blank narrow))
 
-pub world-rehearse-printed-nothing : ¬ ((sheet world out : List ℕ) → (if badSheet sheet then recordLeft sheet world out else out) ≡ recordLeft sheet world out)
+pub world-rehearse-printed-nothing : ¬ ((sheet world out : List ℕ) → T (in-bytes sheet) → T (in-bytes world) → T (in-bytes out)
+    → (if badSheet sheet then recordLeft sheet world out else out) ≡ recordLeft sheet world out)
 unfolding laidBy longest sheetIn stepsIn allZerosIn recorded
-world-rehearse-printed-nothing p = differ (entry 0) (p blank one wide ∙ printed-there one one-long blank wide) tt
+world-rehearse-printed-nothing p = differ (entry 0) (p blank one wide tt one-bytes tt ∙ printed-there one one-long blank wide) tt
 
-pub world-rehearse-printed-bad-always : ¬ ((sheet world out : List ℕ) → laid out 0 badOf ≡ recordLeft sheet world out)
+pub world-rehearse-printed-bad-always : ¬ ((sheet world out : List ℕ) → T (in-bytes sheet) → T (in-bytes world) → T (in-bytes out)
+    → laid out 0 badOf ≡ recordLeft sheet world out)
 unfolding laid laidBy longest sheetIn stepsIn allZerosIn recorded
-world-rehearse-printed-bad-always p = differ (entry 0) (p blank one wide ∙ printed-there one one-long blank wide) tt
+world-rehearse-printed-bad-always p = differ (entry 0) (p blank one wide tt one-bytes tt ∙ printed-there one one-long blank wide) tt
 
-pub world-rehearse-printed-bad-in-part : ¬ ((sheet world out : List ℕ) →
-    (if eqb (length world) 65536 && badSheet sheet
-    then laid out 0 badOf
-    else recordLeft sheet world out) ≡ recordLeft sheet world out)
+pub world-rehearse-printed-bad-in-part : ¬ ((sheet world out : List ℕ) → T (in-bytes sheet) → T (in-bytes world) → T (in-bytes out)
+    → (if eqb (length world) 65536 && badSheet sheet then laid out 0 badOf else recordLeft sheet world out) ≡ recordLeft sheet world out)
 unfolding laid laidBy sheetIn line digits
-world-rehearse-printed-bad-in-part p = differ (entry 0) (sym (long-right one one-long _ _) ∙ p [] one narrow ∙ printed-there one one-long [] narrow) tt
+world-rehearse-printed-bad-in-part p = differ (entry 0) (sym (long-right one one-long _ _) ∙ p [] one narrow tt one-bytes tt ∙ printed-there one one-long [] narrow) tt
 
 -- as much of a record as fits
-pub world-rehearse-printed-cut-short : ¬ ((sheet world out : List ℕ) →
-    (if eqb (length world) 65536 && not (badSheet sheet)
-    then laid out 0 (rehearsed sheet)
-    else recordLeft sheet world out) ≡ recordLeft sheet world out)
+pub world-rehearse-printed-cut-short : ¬ ((sheet world out : List ℕ) → T (in-bytes sheet) → T (in-bytes world) → T (in-bytes out)
+    → (if eqb (length world) 65536 && not (badSheet sheet) then laid out 0 (rehearsed sheet) else recordLeft sheet world out) ≡ recordLeft sheet world out)
 unfolding laid laidBy longest sheetIn stepsIn allZerosIn recorded rehearsed
-world-rehearse-printed-cut-short p = differ (entry 0) (sym (long-right one one-long _ _) ∙ p blank one narrow ∙ printed-there one one-long blank narrow) tt
+world-rehearse-printed-cut-short p = differ (entry 0) (sym (long-right one one-long _ _) ∙ p blank one narrow tt one-bytes tt ∙ printed-there one one-long blank narrow) tt
 
 -- the record of these steps, with these totals in its last line
 abbrev pub withTotals : ℕ → List Step → ℕ → ℕ → ℕ → ℕ → List ℕ
@@ -221,48 +217,45 @@ numbered mask ks =
     let os = outcomes (start mask) ks in
     startOf mask ++ (stepLines 0 os ++ endOf (sum sentBy os) (sum deliveredBy os) (sum droppedBy os) (waitingIn (lastWorld (start mask) ks .places)))
 
-pub world-rehearse-printed-numbers-from-0 : ¬ ((sheet world out : List ℕ) →
-    (if eqb (length world) 65536 && not (badSheet sheet)
-    then laid out 0 (numbered (getD sheet 5 0) (stepsIn (stepsOf sheet) (drop 6 sheet)))
-    else recordLeft sheet world out) ≡ recordLeft sheet world out)
+pub world-rehearse-printed-numbers-from-0 : ¬ ((sheet world out : List ℕ) → T (in-bytes sheet) → T (in-bytes world) → T (in-bytes out)
+    → (if eqb (length world) 65536 && not (badSheet sheet) then laid out 0 (numbered (getD sheet 5 0) (stepsIn (stepsOf sheet) (drop 6 sheet))) else recordLeft sheet world out) ≡ recordLeft sheet world out)
 unfolding laid laidBy longest sheetIn stepsIn allZerosIn recorded numberAt
 world-rehearse-printed-numbers-from-0 p =
-    differ (entry 8) (sym (long-right one one-long _ _) ∙ p written one wide ∙ printed-there one one-long written wide) tt
+    differ (entry 8) (sym (long-right one one-long _ _) ∙ p written one wide tt one-bytes tt ∙ printed-there one one-long written wide) tt
 
-pub world-rehearse-printed-invented-totals : ¬ ((sheet world out : List ℕ) →
-    (if eqb (length world) 65536 && not (badSheet sheet)
-    then laid out 0 (withTotals (getD sheet 5 0) (stepsIn (stepsOf sheet) (drop 6 sheet)) 0 0 0 0)
-    else recordLeft sheet world out) ≡ recordLeft sheet world out)
+pub world-rehearse-printed-invented-totals : ¬ ((sheet world out : List ℕ) → T (in-bytes sheet) → T (in-bytes world) → T (in-bytes out)
+    → (if eqb (length world) 65536 && not (badSheet sheet) then laid out 0 (withTotals (getD sheet 5 0) (stepsIn (stepsOf sheet) (drop 6 sheet)) 0 0 0 0) else recordLeft sheet world out) ≡ recordLeft sheet world out)
 unfolding laid laidBy longest sheetIn stepsIn allZerosIn recorded numberAt
 world-rehearse-printed-invented-totals p =
-    differ (entry 26) (sym (long-right one one-long _ _) ∙ p written one wide ∙ printed-there one one-long written wide) tt
+    differ (entry 26) (sym (long-right one one-long _ _) ∙ p written one wide tt one-bytes tt ∙ printed-there one one-long written wide) tt
 
 -- ---- engine
 
-pub engine-world-good-always : ¬ ((w : List ℕ) → 0 ≡ goodNumber w)
-engine-world-good-always p = differ itself (p soiled ∙ ap (λ (b : Bool). if b then 0 else 1) soiled-bad) tt
+pub engine-world-good-always : ¬ ((w : List ℕ) → T (in-bytes w) → 0 ≡ goodNumber w)
+engine-world-good-always p = differ itself (p soiled soiled-bytes ∙ ap (λ (b : Bool). if b then 0 else 1) soiled-bad) tt
 
-pub engine-world-good-1-for-a-good-one : ¬ ((w : List ℕ) → (if goodBytes w then 1 else 0) ≡ goodNumber w)
+pub engine-world-good-1-for-a-good-one : ¬ ((w : List ℕ) → T (in-bytes w) → (if goodBytes w then 1 else 0) ≡ goodNumber w)
 engine-world-good-1-for-a-good-one p =
-    differ itself (sym (ap (λ (b : Bool). if b then 1 else 0) one-good) ∙ p one ∙ ap (λ (b : Bool). if b then 0 else 1) one-good) tt
+    differ itself (sym (ap (λ (b : Bool). if b then 1 else 0) one-good) ∙ p one one-bytes ∙ ap (λ (b : Bool). if b then 0 else 1) one-good) tt
 
-pub engine-world-good-by-length-only : ¬ ((w : List ℕ) → (if eqb (length w) 65536 then 0 else 1) ≡ goodNumber w)
+pub engine-world-good-by-length-only : ¬ ((w : List ℕ) → T (in-bytes w) → (if eqb (length w) 65536 then 0 else 1) ≡ goodNumber w)
 engine-world-good-by-length-only p =
-    differ itself (sym (ap (λ (n : ℕ). if eqb n 65536 then 0 else 1) soiled-long) ∙ p soiled ∙ ap (λ (b : Bool). if b then 0 else 1) soiled-bad) tt
+    differ itself (sym (ap (λ (n : ℕ). if eqb n 65536 then 0 else 1) soiled-long) ∙ p soiled soiled-bytes ∙ ap (λ (b : Bool). if b then 0 else 1) soiled-bad) tt
 
-pub engine-world-start-answer-done-always : ¬ ((w : List ℕ) (mask : ℕ) → 0 ≡ lentStart w mask .answer)
+pub engine-world-start-answer-done-always : ¬ ((w : List ℕ) (mask : ℕ) → T (in-bytes w) → T (in-u8 mask) → 0 ≡ lentStart w mask .answer)
 unfolding lentStart
-engine-world-start-answer-done-always p = differ itself (p [] 1) tt
+engine-world-start-answer-done-always p = differ itself (p [] 1 tt tt) tt
 
 mask-0-there : lentStart one 0 .answer ≡ 2
 unfolding lentStart
 mask-0-there = rw (length-image (start 1))
 
-pub engine-world-start-answer-mask-0-accepted : ¬ ((w : List ℕ) (mask : ℕ) → (if eqb (length w) 65536 && eqb mask 0 then 0 else lentStart w mask .answer) ≡ lentStart w mask .answer)
-engine-world-start-answer-mask-0-accepted p = differ itself (sym (long-right one one-long _ _) ∙ p one 0 ∙ mask-0-there) tt
+pub engine-world-start-answer-mask-0-accepted : ¬ ((w : List ℕ) (mask : ℕ) → T (in-bytes w) → T (in-u8 mask)
+    → (if eqb (length w) 65536 && eqb mask 0 then 0 else lentStart w mask .answer) ≡ lentStart w mask .answer)
+engine-world-start-answer-mask-0-accepted p = differ itself (sym (long-right one one-long _ _) ∙ p one 0 one-bytes tt ∙ mask-0-there) tt
 
-pub engine-world-start-buffer-as-it-was : ¬ ((w : List ℕ) (mask : ℕ) → w ≡ lentStart w mask .buffer)
-engine-world-start-buffer-as-it-was p = starts-differ (p two 1 ∙ buffer-of (start-of two (length-image (start 2))))
+pub engine-world-start-buffer-as-it-was : ¬ ((w : List ℕ) (mask : ℕ) → T (in-bytes w) → T (in-u8 mask) → w ≡ lentStart w mask .buffer)
+engine-world-start-buffer-as-it-was p = starts-differ (p two 1 two-bytes tt ∙ buffer-of (start-of two (length-image (start 2))))
 
 -- nine bytes for what a step tells, and what is told there of a step of a good world
 abbrev nine : List ℕ
@@ -284,100 +277,110 @@ kept-there : (w : List ℕ) (kind id value : ℕ) → toldStep w kind id value [
 unfolding toldStep
 kept-there w kind id value = refl
 
-pub engine-world-step-answer-refused-always : ¬ ((w told : List ℕ) (kind id value : ℕ) → 1 ≡ toldStep w kind id value told .answer)
+pub engine-world-step-answer-refused-always : ¬ ((w : List ℕ) (kind id value : ℕ) (told : List ℕ) → T (in-bytes w) → T (in-u8 kind) → T (in-u8 id) → T (in-u32 value) → T (in-bytes told)
+    → 1 ≡ toldStep w kind id value told .answer)
 unfolding recorded
-engine-world-step-answer-refused-always p = differ itself (p one nine 5 0 77 ∙ answer-of (stepped-there (start 1) one-formed 5 0 77)) tt
+engine-world-step-answer-refused-always p = differ itself (p one 5 0 77 nine one-bytes tt tt tt tt ∙ answer-of (stepped-there (start 1) one-formed 5 0 77)) tt
 
 -- the write is done, though nothing can be told
-pub engine-world-step-answer-done-untold : ¬ ((w told : List ℕ) (kind id value : ℕ)
+pub engine-world-step-answer-done-untold : ¬ ((w : List ℕ) (kind id value : ℕ) (told : List ℕ) → T (in-bytes w) → T (in-u8 kind) → T (in-u8 id) → T (in-u32 value) → T (in-bytes told)
     → lentStep w (record { kind = kind; id = id; value = value }) .answer ≡ toldStep w kind id value told .answer)
 unfolding recorded
 engine-world-step-answer-done-untold p =
-    differ itself (sym (ap number (step-of (start 1) one-formed write)) ∙ p one [] 5 0 77 ∙ answer-of (kept-there one 5 0 77)) tt
+    differ itself (sym (ap number (step-of (start 1) one-formed write)) ∙ p one 5 0 77 [] one-bytes tt tt tt tt ∙ answer-of (kept-there one 5 0 77)) tt
 
-pub engine-world-step-buffer-as-it-was : ¬ ((w told : List ℕ) (kind id value : ℕ) → w ≡ toldStep w kind id value told .buffer)
+pub engine-world-step-buffer-as-it-was : ¬ ((w : List ℕ) (kind id value : ℕ) (told : List ℕ) → T (in-bytes w) → T (in-u8 kind) → T (in-u8 id) → T (in-u32 value) → T (in-bytes told)
+    → w ≡ toldStep w kind id value told .buffer)
 unfolding recorded
-engine-world-step-buffer-as-it-was p = write-moves (p one nine 5 0 77 ∙ ap (λ (x : Stepped). x .buffer) (stepped-there (start 1) one-formed 5 0 77))
+engine-world-step-buffer-as-it-was p = write-moves (p one 5 0 77 nine one-bytes tt tt tt tt ∙ ap (λ (x : Stepped). x .buffer) (stepped-there (start 1) one-formed 5 0 77))
 
 -- an event is lost
-pub engine-world-step-buffer-moved-untold : ¬ ((w told : List ℕ) (kind id value : ℕ)
+pub engine-world-step-buffer-moved-untold : ¬ ((w : List ℕ) (kind id value : ℕ) (told : List ℕ) → T (in-bytes w) → T (in-u8 kind) → T (in-u8 id) → T (in-u32 value) → T (in-bytes told)
     → lentStep w (record { kind = kind; id = id; value = value }) .buffer ≡ toldStep w kind id value told .buffer)
 unfolding recorded
 engine-world-step-buffer-moved-untold p =
-    write-moves (sym (ap (λ (x : Stepped). x .buffer) (kept-there one 5 0 77)) ∙ sym (p one [] 5 0 77) ∙ buffer-of (step-of (start 1) one-formed write))
+    write-moves (sym (ap (λ (x : Stepped). x .buffer) (kept-there one 5 0 77)) ∙ sym (p one 5 0 77 [] one-bytes tt tt tt tt) ∙ buffer-of (step-of (start 1) one-formed write))
 
-pub engine-world-step-columns-as-they-were : ¬ ((w told : List ℕ) (kind id value : ℕ) → told ≡ toldStep w kind id value told .told)
+pub engine-world-step-columns-as-they-were : ¬ ((w : List ℕ) (kind id value : ℕ) (told : List ℕ) → T (in-bytes w) → T (in-u8 kind) → T (in-u8 id) → T (in-u32 value) → T (in-bytes told)
+    → told ≡ toldStep w kind id value told .told)
 unfolding recorded toldOf cat bytesOf toldBytes
-engine-world-step-columns-as-they-were p = differ (entry 0) (p one nine 5 0 77 ∙ told-of (stepped-there (start 1) one-formed 5 0 77)) tt
+engine-world-step-columns-as-they-were p = differ (entry 0) (p one 5 0 77 nine one-bytes tt tt tt tt ∙ told-of (stepped-there (start 1) one-formed 5 0 77)) tt
 
-pub engine-world-step-columns-zeros-always : ¬ ((w told : List ℕ) (kind id value : ℕ) → placed told 0 (zeros 9) ≡ toldStep w kind id value told .told)
+pub engine-world-step-columns-zeros-always : ¬ ((w : List ℕ) (kind id value : ℕ) (told : List ℕ) → T (in-bytes w) → T (in-u8 kind) → T (in-u8 id) → T (in-u32 value) → T (in-bytes told)
+    → placed told 0 (zeros 9) ≡ toldStep w kind id value told .told)
 unfolding recorded toldOf cat bytesOf run zeros toldBytes placed splice
-engine-world-step-columns-zeros-always p = differ (entry 0) (p (image ending) nine 6 0 0 ∙ told-of (stepped-there ending ending-formed 6 0 0)) tt
+engine-world-step-columns-zeros-always p = differ (entry 0) (p (image ending) 6 0 0 nine (image-bytes ending ending-formed) tt tt tt tt ∙ told-of (stepped-there ending ending-formed 6 0 0)) tt
 
 -- nothing is there to deliver: EMPTY
-pub engine-world-step-columns-told-by-a-refusal : ¬ ((w told : List ℕ) (kind id value : ℕ)
+pub engine-world-step-columns-told-by-a-refusal : ¬ ((w : List ℕ) (kind id value : ℕ) (told : List ℕ) → T (in-bytes w) → T (in-u8 kind) → T (in-u8 id) → T (in-u32 value) → T (in-bytes told)
     → placed told 0 (toldBytes (toldOf (lentStep w (record { kind = kind; id = id; value = value })))) ≡ toldStep w kind id value told .told)
 unfolding recorded toldOf cat bytesOf toldBytes placed splice
 engine-world-step-columns-told-by-a-refusal p =
     differ (entry 0)
     (sym (ap (λ (l : Lent). placed nine 0 (toldBytes (toldOf l))) (step-of (start 1) one-formed deliver))
-    ∙ p one nine 6 0 0
+    ∙ p one 6 0 0 nine one-bytes tt tt tt tt
     ∙ told-of (stepped-there (start 1) one-formed 6 0 0))
     tt
 
-pub engine-sheet-check-never-bad : ¬ ((sheet : List ℕ) → 0 ≡ sheetNumber sheet)
+pub engine-sheet-check-never-bad : ¬ ((sheet : List ℕ) → T (in-bytes sheet) → 0 ≡ sheetNumber sheet)
 unfolding allZerosIn
-engine-sheet-check-never-bad p = differ itself (p []) tt
+engine-sheet-check-never-bad p = differ itself (p [] tt) tt
 
-pub engine-sheet-check-bad-always : ¬ ((sheet : List ℕ) → 9 ≡ sheetNumber sheet)
+pub engine-sheet-check-bad-always : ¬ ((sheet : List ℕ) → T (in-bytes sheet) → 9 ≡ sheetNumber sheet)
 unfolding allZerosIn
-engine-sheet-check-bad-always p = differ itself (p blank) tt
+engine-sheet-check-bad-always p = differ itself (p blank tt) tt
 
-pub engine-sheet-check-1-for-a-bad-one : ¬ ((sheet : List ℕ) → (if badSheet sheet then 1 else 0) ≡ sheetNumber sheet)
+pub engine-sheet-check-1-for-a-bad-one : ¬ ((sheet : List ℕ) → T (in-bytes sheet) → (if badSheet sheet then 1 else 0) ≡ sheetNumber sheet)
 unfolding allZerosIn
-engine-sheet-check-1-for-a-bad-one p = differ itself (p []) tt
+engine-sheet-check-1-for-a-bad-one p = differ itself (p [] tt) tt
 
 -- a kind and an id without a value, in a buffer with room
-pub engine-sheet-write-answer-done-always : ¬ ((buf : List ℕ) (mask : ℕ) (kinds ids values : List ℕ) → 0 ≡ sheets.number (ruled buf mask kinds ids values))
+pub engine-sheet-write-answer-done-always : ¬ ((buf : List ℕ) (mask : ℕ) (kinds ids values : List ℕ) → T (in-bytes buf) → T (in-u8 mask) → T (in-bytes kinds) → T (in-bytes ids) → T (in-u32s values)
+    → 0 ≡ sheets.number (ruled buf mask kinds ids values))
 unfolding ruled
-engine-sheet-write-answer-done-always p = differ itself (p page 1 (5 ∷ []) (0 ∷ []) []) tt
+engine-sheet-write-answer-done-always p = differ itself (p page 1 (5 ∷ []) (0 ∷ []) [] tt tt tt tt tt) tt
 
-pub engine-sheet-write-answer-of-the-shortest : ¬ ((buf : List ℕ) (mask : ℕ) (kinds ids values : List ℕ)
+pub engine-sheet-write-answer-of-the-shortest : ¬ ((buf : List ℕ) (mask : ℕ) (kinds ids values : List ℕ) → T (in-bytes buf) → T (in-u8 mask) → T (in-bytes kinds) → T (in-bytes ids) → T (in-u32s values)
     → sheets.number (sheets.written buf mask (listed kinds ids values)) ≡ sheets.number (ruled buf mask kinds ids values))
 unfolding ruled listed sheets.written sheets.sheetBytes sheets.stepsBytes
-engine-sheet-write-answer-of-the-shortest p = differ itself (p page 1 (5 ∷ []) (0 ∷ []) []) tt
+engine-sheet-write-answer-of-the-shortest p = differ itself (p page 1 (5 ∷ []) (0 ∷ []) [] tt tt tt tt tt) tt
 
-pub engine-sheet-write-left-as-it-was : ¬ ((buf : List ℕ) (mask : ℕ) (kinds ids values : List ℕ) → buf ≡ bufferOf buf (ruled buf mask kinds ids values))
+pub engine-sheet-write-left-as-it-was : ¬ ((buf : List ℕ) (mask : ℕ) (kinds ids values : List ℕ) → T (in-bytes buf) → T (in-u8 mask) → T (in-bytes kinds) → T (in-bytes ids) → T (in-u32s values)
+    → buf ≡ bufferOf buf (ruled buf mask kinds ids values))
 unfolding ruled listed sheets.written sheets.sheetBytes sheets.stepsBytes
-engine-sheet-write-left-as-it-was p = differ (entry 0) (p page 1 [] [] []) tt
+engine-sheet-write-left-as-it-was p = differ (entry 0) (p page 1 [] [] [] tt tt tt tt tt) tt
 
 -- told too short for the length, and a world of no length: BAD WORLD
-pub engine-sheet-rehearse-answer-done-always : ¬ ((sheet world out told : List ℕ) → 0 ≡ toldRehearsal sheet world out told .answer)
+pub engine-sheet-rehearse-answer-done-always : ¬ ((sheet world out told : List ℕ) → T (in-bytes sheet) → T (in-bytes world) → T (in-bytes out) → T (in-bytes told)
+    → 0 ≡ toldRehearsal sheet world out told .answer)
 unfolding toldRehearsal
-engine-sheet-rehearse-answer-done-always p = differ itself (p blank one page []) tt
+engine-sheet-rehearse-answer-done-always p = differ itself (p blank one page [] tt one-bytes tt tt) tt
 
-pub engine-sheet-rehearse-answer-before-told : ¬ ((sheet world out told : List ℕ)
+pub engine-sheet-rehearse-answer-before-told : ¬ ((sheet world out told : List ℕ) → T (in-bytes sheet) → T (in-bytes world) → T (in-bytes out) → T (in-bytes told)
     → rehearseAnswer sheet world out .answer ≡ toldRehearsal sheet world out told .answer)
 unfolding rehearseAnswer toldRehearsal
-engine-sheet-rehearse-answer-before-told p = differ itself (p blank [] page []) tt
+engine-sheet-rehearse-answer-before-told p = differ itself (p blank [] page [] tt tt tt tt) tt
 
-pub engine-sheet-rehearse-last-run-untold : ¬ ((sheet world out told : List ℕ) → worldLeft sheet world ≡ toldRehearsal sheet world out told .last)
+pub engine-sheet-rehearse-last-run-untold : ¬ ((sheet world out told : List ℕ) → T (in-bytes sheet) → T (in-bytes world) → T (in-bytes out) → T (in-bytes told)
+    → worldLeft sheet world ≡ toldRehearsal sheet world out told .last)
 unfolding toldRehearsal
-engine-sheet-rehearse-last-run-untold p = starts-differ (sym (p blank two page []) ∙ left-there blank two (length-image (start 2)) refl)
+engine-sheet-rehearse-last-run-untold p = starts-differ (sym (p blank two page [] tt two-bytes tt tt) ∙ left-there blank two (length-image (start 2)) refl)
 
-pub engine-sheet-rehearse-printed-nothing : ¬ ((sheet world out told : List ℕ) → out ≡ toldRehearsal sheet world out told .printed)
+pub engine-sheet-rehearse-printed-nothing : ¬ ((sheet world out told : List ℕ) → T (in-bytes sheet) → T (in-bytes world) → T (in-bytes out) → T (in-bytes told)
+    → out ≡ toldRehearsal sheet world out told .printed)
 unfolding toldRehearsal laid sheetIn stepsIn allZerosIn recorded rehearsed
-engine-sheet-rehearse-printed-nothing p = differ (entry 0) (p blank one page (replicate 4 7) ∙ printed-there blank page) tt
+engine-sheet-rehearse-printed-nothing p = differ (entry 0) (p blank one page (replicate 4 7) tt one-bytes tt tt ∙ printed-there blank page) tt
 
-pub engine-sheet-rehearse-length-told-by-a-refusal : ¬ ((sheet world out told : List ℕ)
+pub engine-sheet-rehearse-length-told-by-a-refusal : ¬ ((sheet world out told : List ℕ) → T (in-bytes sheet) → T (in-bytes world) → T (in-bytes out) → T (in-bytes told)
     → placed told 0 (be32 (rehearseAnswer sheet world out .length)) ≡ toldRehearsal sheet world out told .told)
 unfolding rehearseAnswer toldRehearsal bytesOf placed splice
-engine-sheet-rehearse-length-told-by-a-refusal p = differ (entry 0) (p blank [] page (replicate 4 7)) tt
+engine-sheet-rehearse-length-told-by-a-refusal p = differ (entry 0) (p blank [] page (replicate 4 7) tt tt tt tt) tt
 
 -- told after an answer
 abbrev toldAfter : Rehearsed → List ℕ
 toldAfter r = if eqb (r .answer) 0 then be32 (r .length) ++ [] else replicate 4 7
 
-pub engine-sheet-rehearse-length-not-told : ¬ ((sheet world out told : List ℕ) → told ≡ toldRehearsal sheet world out told .told)
+pub engine-sheet-rehearse-length-not-told : ¬ ((sheet world out told : List ℕ) → T (in-bytes sheet) → T (in-bytes world) → T (in-bytes out) → T (in-bytes told)
+    → told ≡ toldRehearsal sheet world out told .told)
 unfolding toldRehearsal fittedOf sheetIn stepsIn allZerosIn recorded rehearsed bytesOf
-engine-sheet-rehearse-length-not-told p = differ (entry 0) (p blank one page (replicate 4 7) ∙ ap toldAfter (answered-there blank page)) tt
+engine-sheet-rehearse-length-not-told p = differ (entry 0) (p blank one page (replicate 4 7) tt one-bytes tt tt ∙ ap toldAfter (answered-there blank page)) tt

@@ -34,10 +34,10 @@ pub record Code : Type 0 where
   pub rehearse-out : (sheet world out : List ℕ) → List ℕ
 
 pub record Promised (c : Code) : Type 0 where
-  pub step : (w : List ℕ) (k : Step) → lentOf (c .step w k) (c .step-world w k) ≡ lentStep w k
-  pub start : (w : List ℕ) (mask : ℕ) → lentOf (c .start w mask) (c .start-world w mask) ≡ lentStart w mask
-  pub check : (b : List ℕ) → c .check b ≡ checkOf b
-  pub read-at : (sheet : List ℕ) (at : ℕ) → c .read-at sheet at ≡ takenAt sheet at
+  pub step-kept : (w : List ℕ) (k : Step) → lentOf (c .step w k) (c .step-world w k) ≡ lentStep w k
+  pub start-kept : (w : List ℕ) (mask : ℕ) → lentOf (c .start w mask) (c .start-world w mask) ≡ lentStart w mask
+  pub check-kept : (b : List ℕ) → c .check b ≡ checkOf b
+  pub read-at-kept : (sheet : List ℕ) (at : ℕ) → c .read-at sheet at ≡ takenAt sheet at
   pub write-answer : (buf : List ℕ) (mask : ℕ) (kinds ids values : List ℕ)
       → (numberOf (c .write buf mask kinds ids values) ≡ number (ruled buf mask kinds ids values))
       × (sizeOf (c .write buf mask kinds ids values) ≡ ruledSize buf mask kinds ids values)

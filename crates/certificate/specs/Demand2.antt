@@ -29,8 +29,8 @@ toldBy c w [] = []
 toldBy c w (k ∷ ks) = columns (c .step w k) ∷ toldBy c (c .step-world w k) ks
 
 -- the same of an outcome of the rules
-abbrev pub ruled : Outcome → List ℕ
-ruled o = answer o ∷ fields (report o .event) (report o .who)
+abbrev pub outcomeLine : Outcome → List ℕ
+outcomeLine o = answer o ∷ fields (report o .event) (report o .who)
 
 -- ---- a sheet, read by the program: "It is read from the front one step at a time."
 
@@ -62,10 +62,10 @@ pub record Demand2 (c : Code) : Type 0 where
       → (goodBytes w ≡ true) × (c .step-world w k ≡ image (after (worldAt w) (stepped (worldAt w) k))) × (reportOf (c .step w k .report) ≡ report (stepped (worldAt w) k))
   -- and so through any run, refused steps in it or not, from any good world
   pub run : (w : List ℕ) → goodBytes w ≡ true → (ks : List Step)
-      → (ranBy c w ks ≡ image (lastWorld (worldAt w) ks)) × (toldBy c w ks ≡ map ruled (outcomes (worldAt w) ks))
+      → (ranBy c w ks ≡ image (lastWorld (worldAt w) ks)) × (toldBy c w ks ≡ map outcomeLine (outcomes (worldAt w) ks))
   -- and from any start
   pub run-started : (w : List ℕ) (mask : ℕ) → c .start w mask .number ≡ 0 → (ks : List Step)
-      → (ranBy c (c .start-world w mask) ks ≡ image (lastWorld (start mask) ks)) × (toldBy c (c .start-world w mask) ks ≡ map ruled (outcomes (start mask) ks))
+      → (ranBy c (c .start-world w mask) ks ≡ image (lastWorld (start mask) ks)) × (toldBy c (c .start-world w mask) ks ≡ map outcomeLine (outcomes (start mask) ks))
   -- a sheet that is run leaves the image of its last world, and its record whole at the front of the record's buffer
   pub rehearsed : (b world out : List ℕ) (mask : ℕ) (ks : List Step) → sheetIn b ≡ sheet mask ks → c .rehearse b world out .answer ≡ 0
       → (c .rehearse b world out .length ≡ length (printed mask ks))

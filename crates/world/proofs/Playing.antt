@@ -36,7 +36,7 @@ use Rattle.world.specs.declared.run.Tally.{Tally}
 use Rattle.world.specs.declared.run.Rehearsed.{Rehearsed}
 use Rattle.world.specs.Answer.{reportOf, lentOf}
 use Rattle.world.specs.Commits.{freeRows}
-use Rattle.world.specs.Playing.{columnsOf, Stepped, Ran, Ruling, bad-world, bad-sheet, no-room, runs, roomFor, ruled, answerBy, laidBy, worldBy, rehearseAnswer, worldLeft, recordLeft}
+use Rattle.world.specs.Playing.{columnsOf, Stepped, Ran, Ruling, bad-world, bad-sheet, no-room, runs, roomFor, decided, answerBy, laidBy, worldBy, rehearseAnswer, worldLeft, recordLeft}
 use Rattle.world.proofs.Places.{free-rows}
 use Rattle.world.proofs.Moves.{step-moves}
 
@@ -254,7 +254,7 @@ module _ (b w out : List ℕ) where
   Left r w' out' = (r ≡ rehearseAnswer b w out) × ((w' ≡ worldLeft b w out) × (out' ≡ recordLeft b w out))
 
   -- what comes of the ruling comes of the call
-  left-by : (x : Ruling) → ruled b w out ≡ x → (r : Rehearsed) (w' out' : List ℕ) → r ≡ answerBy out x → w' ≡ worldBy w x → out' ≡ laidBy out x → Left r w' out'
+  left-by : (x : Ruling) → decided b w out ≡ x → (r : Rehearsed) (w' out' : List ℕ) → r ≡ answerBy out x → w' ≡ worldBy w x → out' ≡ laidBy out x → Left r w' out'
   unfolding rehearseAnswer worldLeft recordLeft
   left-by x e r w' out' f g h = (rw e f, (rw e g, rw e h))
 
@@ -263,22 +263,22 @@ module _ (b w out : List ℕ) where
   run-answered mask ks n e = rw e
 
   pub misfit : (length w ≡ 65536 → ⊥) → Left (record { answer = 1; length = 0 }) w out
-  misfit h = left-by bad-world (unfold ruled in rw (ne-eqb (length w) 65536 h)) _ _ _ (unfold answerBy in refl) refl (unfold laidBy in refl)
+  misfit h = left-by bad-world (unfold decided in rw (ne-eqb (length w) 65536 h)) _ _ _ (unfold answerBy in refl) refl (unfold laidBy in refl)
 
   module _ (long : length w ≡ 65536) (s : checked.Sheet) (e : s ≡ checkOf b) where
-    ruled-by : (x : Sheet) → sheetIn b ≡ x → ruled b w out ≡ roomFor (length out) x
-    unfolding ruled
-    ruled-by x f = rw (eq-eqb (length w) 65536 long, f)
+    decided-by : (x : Sheet) → sheetIn b ≡ x → decided b w out ≡ roomFor (length out) x
+    unfolding decided
+    decided-by x f = rw (eq-eqb (length w) 65536 long, f)
 
     pub left-bad : s .bad ≡ true → (r : Rehearsed) (out' : List ℕ) → (r ≡ answerBy out bad-sheet) × (out' ≡ laidBy out bad-sheet) → Left r w out'
-    left-bad t r out' h = left-by bad-sheet (ruled-by bad (found-bad b s e t)) r w out' (h .0) refl (h .1)
+    left-bad t r out' h = left-by bad-sheet (decided-by bad (found-bad b s e t)) r w out' (h .0) refl (h .1)
 
     module _ (t : s .bad ≡ false) where
       abbrev ks : List Step
       ks = stepsFrom b 6
 
-      ruled-good : ruled b w out ≡ (if ltb (length out) (longest (length ks)) then no-room else runs (s .mask) ks)
-      ruled-good = ruled-by (sheet (s .mask) ks) (found-good b s e t)
+      decided-good : decided b w out ≡ (if ltb (length out) (longest (length ks)) then no-room else runs (s .mask) ks)
+      decided-good = decided-by (sheet (s .mask) ks) (found-good b s e t)
 
       room-is : longest (length ks) ≡ 33 + 30 * s .steps
       room-is = longest-is (length ks) ∙ ap (λ (n : ℕ). 33 + 30 * n) (steps-long b s e t)
@@ -286,7 +286,7 @@ module _ (b w out : List ℕ) where
       pub left-full : length out < 33 + 30 * s .steps → Left (record { answer = 8; length = 0 }) w out
       left-full l =
           let short = lt-ltb (length out) (longest (length ks)) (rw room-is l) in
-          left-by no-room (ruled-good ∙ ap (λ (x : Bool). if x then no-room else runs (s .mask) ks) short) _ _ _
+          left-by no-room (decided-good ∙ ap (λ (x : Bool). if x then no-room else runs (s .mask) ks) short) _ _ _
           (unfold answerBy in refl) refl (unfold laidBy in refl)
 
       pub left-good : 33 + 30 * s .steps ≤ length out → s .mask < 256 → (w' out' : List ℕ) (n : ℕ)
@@ -299,7 +299,7 @@ module _ (b w out : List ℕ) where
           let roomy = le-ltb (length out) (longest (length ks)) (rw room-is l) in
           let exact : n ≡ length (printed (s .mask) ks) = omega (arith, put .0, fits, longest-is (length ks), most) in
           let front = laid-whole out (printed (s .mask) ks) (omega (arith, fits, room-is, l)) in
-          left-by (runs (s .mask) ks) (ruled-good ∙ ap (λ (x : Bool). if x then no-room else runs (s .mask) ks) roomy) _ w' out'
+          left-by (runs (s .mask) ks) (decided-good ∙ ap (λ (x : Bool). if x then no-room else runs (s .mask) ks) roomy) _ w' out'
           (run-answered (s .mask) ks n exact) (put .1 .1) (unfold laidBy in (put .1 .0 ∙ front))
 
 -- ---- a buffer that takes the longest record of 8,000 steps takes the record of every sheet, whole
@@ -320,13 +320,13 @@ module _ (b w out : List ℕ) (long : length w ≡ 65536) (wide : longest 8000 �
       (rw room, rw room)
 
   pub whole-record : (rehearseAnswer b w out .length ≡ length (rehearsed b)) × (recordLeft b w out ≡ rehearsed b ++ drop (length (rehearsed b)) out)
-  unfolding rehearseAnswer recordLeft ruled rehearsed
+  unfolding rehearseAnswer recordLeft decided rehearsed
   whole-record = rw (eq-eqb (length w) 65536 long) (whole-sheet (sheetIn b) refl)
 
 -- ---- of a sheet of bytes, whatever comes of it, the length that is answered is at most that of the longest record
 
 pub answer-long : (b w out : List ℕ) → getD b 5 0 < 256 → rehearseAnswer b w out .length ≤ longest 8000
-unfolding rehearseAnswer answerBy ruled
+unfolding rehearseAnswer answerBy decided
 answer-long b w out byte = cases Short (eqb (length w) 65536) (λ _. of-sheet (sheetIn b) refl) (λ _. omega arith)
   where
     Short : Ruling → Type 0

@@ -51,15 +51,15 @@ roomFor room bad = bad-sheet
 roomFor room (sheet mask ks) = if ltb room (longest (length ks)) then no-room else runs mask ks
 
 -- BAD WORLD: "at a start, wrong length"
-unfoldable pub ruled : List ℕ → List ℕ → List ℕ → Ruling
-ruled b w out = if eqb (length w) 65536 then roomFor (length out) (sheetIn b) else bad-world
+unfoldable pub decided : List ℕ → List ℕ → List ℕ → Ruling
+decided b w out = if eqb (length w) 65536 then roomFor (length out) (sheetIn b) else bad-world
 
 -- document 01's numbers
-abbrev pub numberOf : Ruling → ℕ
-numberOf bad-world = table.number table.bad-world
-numberOf bad-sheet = sheets.number sheets.bad-sheet
-numberOf no-room = table.number table.no-room
-numberOf (runs mask ks) = 0
+abbrev pub numberBy : Ruling → ℕ
+numberBy bad-world = table.number table.bad-world
+numberBy bad-sheet = sheets.number sheets.bad-sheet
+numberBy no-room = table.number table.no-room
+numberBy (runs mask ks) = 0
 
 -- the record that is laid: "For BAD SHEET it prints `bad 9` only", where that fits whole
 abbrev pub recordBy : ℕ → Ruling → List ℕ
@@ -70,7 +70,7 @@ recordBy room (runs mask ks) = printed mask ks
 
 -- the answer, and how many bytes of a record stand in out
 unfoldable pub answerBy : List ℕ → Ruling → Rehearsed
-answerBy out x = record { answer = numberOf x; length = length (recordBy (length out) x) }
+answerBy out x = record { answer = numberBy x; length = length (recordBy (length out) x) }
 
 -- the record at the front; the bytes past it stay
 unfoldable pub laidBy : List ℕ → Ruling → List ℕ
@@ -84,10 +84,10 @@ worldBy w no-room = w
 worldBy w (runs mask ks) = image (lastWorld (start mask) ks)
 
 unfoldable pub rehearseAnswer : List ℕ → List ℕ → List ℕ → Rehearsed
-rehearseAnswer b w out = answerBy out (ruled b w out)
+rehearseAnswer b w out = answerBy out (decided b w out)
 
 unfoldable pub worldLeft : List ℕ → List ℕ → List ℕ → List ℕ
-worldLeft b w out = worldBy w (ruled b w out)
+worldLeft b w out = worldBy w (decided b w out)
 
 unfoldable pub recordLeft : List ℕ → List ℕ → List ℕ → List ℕ
-recordLeft b w out = laidBy out (ruled b w out)
+recordLeft b w out = laidBy out (decided b w out)
