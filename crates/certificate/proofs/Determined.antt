@@ -389,9 +389,9 @@ written-back (Done n) = refl
 written-back NoRoom = refl
 written-back BadSheet = refl
 
-pub sheet-write-answer : (buf : List ℕ) (mask : ℕ) (kinds ids values : List ℕ) → (buf : List ℕ) (mask : ℕ) (kinds ids values : List ℕ)
+pub sheet-write-answer : (buf : List ℕ) (mask : ℕ) (kinds ids values : List ℕ)
     → Determined (λ r. (numberOf r ≡ sheets.number (ruled buf mask kinds ids values)) × (sizeOf r ≡ ruledSize buf mask kinds ids values))
-sheet-write-answer buf mask kinds ids values buf mask kinds ids values r s e f =
+sheet-write-answer buf mask kinds ids values r s e f =
     sym (written-back r) ∙ (λ i. writtenFor ((e .0 ∙ sym (f .0)) i) ((e .1 ∙ sym (f .1)) i)) ∙ written-back s
 
 pub sheet-write-left : (buf : List ℕ) (mask : ℕ) (kinds ids values : List ℕ) → Determined (λ b. b ≡ bufferOf buf (ruled buf mask kinds ids values))
