@@ -90,7 +90,7 @@ fn transfer(transfer: &Transfer) -> bool {
         && stamp(transfer.best.stamp)
 }
 
-/// "A desk's fields that its phase does not use are zero" (readings, 25).
+/// "A desk's fields that its phase does not use are zero" (docs/DECISIONS.md, 26).
 fn desk(desk: &Desk) -> bool {
     let idle = desk.phase == Phase::Idle;
     let second = matches!(desk.phase, Phase::Read2 | Phase::Write2);

@@ -1,5 +1,5 @@
 //! A second program for the rehearsal engine, written from document 01 and its
-//! readings alone, so that the two programs can be compared run by run.
+//! readings (docs/DECISIONS.md) alone, so that the two programs can be compared run by run.
 
 pub mod desk;
 pub mod generate;

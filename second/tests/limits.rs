@@ -131,7 +131,7 @@ fn most_tries_of_a_sheet() {
     assert_eq!(last_write, Some("1600"));
 }
 
-/// Readings, 7: the message keeps waiting, and WORN comes before NO ROOM.
+/// docs/DECISIONS.md, 7: the message keeps waiting, and WORN comes before NO ROOM.
 #[test]
 fn worn_at_a_reply() {
     let mut world = start(1);

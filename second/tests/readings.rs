@@ -1,4 +1,4 @@
-//! The readings of unclear sentences, by their numbers.
+//! The readings of unclear sentences, by their numbers in docs/DECISIONS.md.
 
 mod common;
 
@@ -343,7 +343,7 @@ fn reading_22_a_generator_taken_for_a_note_has_no_own_sequence() {
 }
 
 #[test]
-fn reading_22a_a_first_reply_of_stamp_zero_leaves_value_zero() {
+fn reading_23_a_first_reply_of_stamp_zero_leaves_value_zero() {
     let mut world = start(1);
     run(&mut world, &[r(0)]);
     let body = Body::GetReply {

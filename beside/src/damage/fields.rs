@@ -202,7 +202,7 @@ fn sender_not_of_old(random: &mut Random, world: &World) -> Option<Vec<u8>> {
     })
 }
 
-/// "A desk's fields that its phase does not use are zero" (readings, 25).
+/// "A desk's fields that its phase does not use are zero" (docs/DECISIONS.md, 26).
 fn desk_unused(random: &mut Random, world: &World) -> Option<Vec<u8>> {
     changed(world, |world| {
         let number = random.below(4) as u8;
