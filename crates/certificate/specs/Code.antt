@@ -1,5 +1,6 @@
 -- The public functions on which demands 1 and 2 are stated: a program is what they answer and leave in the lent buffers, for whatever they are handed.
--- `Promised` is what their sources promise, word for word (checks/total compares them). Assumes nothing.
+-- `Promised` is what their sources promise, word for word (checks/total compares them). What a slice cannot hold, the code is never handed: docs/DECISIONS.md, 46.
+-- Assumes nothing.
 use mathlib.Core.Path.{_≡_}
 use mathlib.Core.List.{List}
 use Prim.Native.Nat.{ℕ}

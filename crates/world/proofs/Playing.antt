@@ -10,6 +10,7 @@ use lib.ListN.{length, getD, drop}
 use mir.Val.{boolByte}
 use borrow.Author.Tests.{eq-eqb, ne-eqb, lt-leb, lt-ltb, le-ltb}
 use Rattle.rules.specs.Sets.{if_then_else_}
+use Rattle.views.proofs.Truth.{cases}
 use Rattle.rules.specs.State.{World, start}
 use Rattle.rules.specs.declared.Step.{Step}
 use Rattle.rules.specs.Sending.{waitingIn}
@@ -36,7 +37,7 @@ use Rattle.world.specs.declared.run.Tally.{Tally}
 use Rattle.world.specs.declared.run.Rehearsed.{Rehearsed}
 use Rattle.world.specs.Answer.{reportOf, lentOf}
 use Rattle.world.specs.Commits.{freeRows}
-use Rattle.world.specs.Playing.{columnsOf, Stepped, Ran, Ruling, bad-world, bad-sheet, no-room, runs, roomFor, decided, answerBy, laidBy, worldBy, rehearseAnswer, worldLeft, recordLeft}
+use Rattle.world.specs.Playing.{columnsOf, Stepped, Ran, Ruling, bad-world, bad-sheet, no-room, runs, roomFor, decided, recordBy, answerBy, laidBy, worldBy, rehearseAnswer, worldLeft, recordLeft}
 use Rattle.world.proofs.Places.{free-rows}
 use Rattle.world.proofs.Moves.{step-moves}
 
