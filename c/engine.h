@@ -6,7 +6,7 @@
      one to uint32_t is aligned for that type;
    - a buffer that is written shares no byte with any other that is given in the same call;
    - two threads use one buffer at a time only to read it; there is nothing else that calls share;
-   - a call finds room on the stack: at most 15,400 bytes were measured (docs/CERTIFICATE.md, "The engine"). None allocates.
+   - a call finds room on the stack: fewer than 16,000 bytes were measured (docs/CERTIFICATE.md, "The engine"). None allocates.
 
    Each returns a number of document 01's table. All but 0 leave every byte of every buffer as it was, but for the record of a bad sheet (below). */
 #ifndef ENGINE_H
@@ -36,7 +36,7 @@ enum {
   ENGINE_WORLD = 65536,  /* bytes of a world */
   ENGINE_TOLD = 9,       /* what a step tells */
   ENGINE_LENGTH = 4,     /* what a rehearsal tells */
-  ENGINE_RECORD = 624067 /* no record is longer (world/proofs/Lengths) */
+  ENGINE_RECORD = 240033 /* no record is longer (rules/proofs/Longest) */
 };
 
 /* 0 for a good world, else BAD WORLD. */
@@ -58,8 +58,9 @@ uint8_t sheet_write(uint8_t *buffer, size_t buffer_length, uint8_t mask, const u
                     const uint32_t *values, size_t values_length);
 
 /* Runs a whole sheet in the world's buffer, which holds the last world afterwards, and writes its record. NO ROOM, before all else, where told is shorter than
-   four bytes; then BAD WORLD, BAD SHEET (`bad 9` and a newline are then the record, where they fit), and NO ROOM where the record's buffer is too short:
-   ENGINE_RECORD bytes are always enough. Of an accepted sheet the record's length goes into the first four bytes of told, high byte first. */
+   four bytes; then BAD WORLD, BAD SHEET (`bad 9` and a newline are then the record, where they fit), and NO ROOM where the record's buffer is shorter than the
+   longest record of n steps, 33 + 30 * n bytes: ENGINE_RECORD are always enough. Of an accepted sheet the record's length goes into the first four bytes of
+   told, high byte first. */
 uint8_t sheet_rehearse(const uint8_t *sheet, size_t sheet_length, uint8_t *world, size_t world_length, uint8_t *record, size_t record_length, uint8_t *told,
                        size_t told_length);
 

@@ -4,7 +4,7 @@
 #include <stdio.h>
 #include <string.h>
 
-enum { STEPS = 9, SHEET = 6 + 8 * STEPS, FILL = 0xee };
+enum { STEPS = 9, SHEET = 6 + 8 * STEPS, LONGEST = 33 + 30 * STEPS, FILL = 0xee };
 
 enum { READ = 4, WRITE = 5, DELIVER = 6 };
 
@@ -111,22 +111,28 @@ static void sheets(const uint8_t *file) {
   check("a part step is BAD SHEET", sheet_check(sheet.bytes, SHEET - 1) == ENGINE_BAD_SHEET);
 }
 
-static uint8_t rehearse(size_t world_length, size_t told_length) {
-  return sheet_rehearse(sheet.bytes, SHEET, world.bytes, world_length, record.bytes, ENGINE_RECORD, told.bytes, told_length);
+static uint8_t rehearse(size_t sheet_length, size_t world_length, size_t record_length, size_t told_length) {
+  return sheet_rehearse(sheet.bytes, sheet_length, world.bytes, world_length, record.bytes, record_length, told.bytes, told_length);
 }
 
 static int all_as_expected(void) { return as_expected(&sheet) && as_expected(&world) && as_expected(&record) && as_expected(&told); }
 
 static void rehearsals(const uint8_t *file, size_t length) {
+  static const char bad[] = "bad 9\n";
   uint8_t last[ENGINE_WORLD];
   memcpy(last, world.bytes, ENGINE_WORLD);
   fill(&world);
   fill(&record);
   fill(&told);
-  check("a rehearsal where told is short is NO ROOM", rehearse(ENGINE_WORLD, ENGINE_LENGTH - 1) == ENGINE_NO_ROOM);
-  check("one in another length is BAD WORLD", rehearse(ENGINE_WORLD + 1, ENGINE_LENGTH) == ENGINE_BAD_WORLD);
-  check("both leave every byte", all_as_expected());
-  check("a sheet is rehearsed", rehearse(ENGINE_WORLD, ENGINE_LENGTH + 1) == ENGINE_DONE);
+  check("a rehearsal where told is short is NO ROOM", rehearse(SHEET, ENGINE_WORLD, ENGINE_RECORD, ENGINE_LENGTH - 1) == ENGINE_NO_ROOM);
+  check("one in another length is BAD WORLD", rehearse(SHEET, ENGINE_WORLD + 1, ENGINE_RECORD, ENGINE_LENGTH) == ENGINE_BAD_WORLD);
+  check("one without room for its record is NO ROOM", rehearse(SHEET, ENGINE_WORLD, LONGEST - 1, ENGINE_LENGTH) == ENGINE_NO_ROOM);
+  check("one of a part step is BAD SHEET", rehearse(SHEET - 1, ENGINE_WORLD, sizeof bad - 2, ENGINE_LENGTH) == ENGINE_BAD_SHEET);
+  check("they leave every byte", all_as_expected());
+  check("of a bad sheet, `bad 9` is the record", rehearse(SHEET - 1, ENGINE_WORLD, sizeof bad - 1, ENGINE_LENGTH) == ENGINE_BAD_SHEET);
+  expect(&record, (const uint8_t *)bad, sizeof bad - 1);
+  check("and nothing else changes", all_as_expected());
+  check("a sheet is rehearsed", rehearse(SHEET, ENGINE_WORLD, LONGEST, ENGINE_LENGTH + 1) == ENGINE_DONE);
   uint8_t counted[ENGINE_LENGTH] = {0, (uint8_t)(length >> 16), (uint8_t)(length >> 8), (uint8_t)length};
   expect(&world, last, ENGINE_WORLD);
   expect(&record, file, length);

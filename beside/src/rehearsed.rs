@@ -9,8 +9,6 @@ use second::sheet::{read, write, Sheet};
 use second::step::{step, Step};
 use second::world::World;
 
-/// No record is longer.
-pub const RECORD: usize = 624_067;
 const BEFORE: u8 = 0xd7;
 
 /// Bytes that are a sheet or not.
@@ -23,8 +21,21 @@ pub fn one(bytes: &[u8]) -> Result<(), String> {
             writes(&sheet)?;
             rehearses(bytes, &sheet)
         }
-        Err(_) => Ok(()),
+        Err(_) => bad(bytes),
     }
+}
+
+/// `bad 9` is the record where it fits whole, and nothing else changes.
+fn bad(bytes: &[u8]) -> Result<(), String> {
+    for (length, laid) in [(0, 0), (5, 0), (6, 6), (7, 6)] {
+        let mut room = Room::of(SIZE, length, LENGTH);
+        same("rehearse", room.rehearse(bytes), 9)?;
+        let expected = [&b"bad 9\n"[..laid], &vec![BEFORE; length - laid]].concat();
+        same("the record", room.record.bytes(), &expected[..])?;
+        room.record.bytes_mut().fill(BEFORE);
+        room.kept()?;
+    }
+    Ok(())
 }
 
 /// The steps in three slices, of which the last has `less` fewer.
@@ -86,6 +97,13 @@ pub fn last_world(sheet: &Sheet) -> Vec<u8> {
     encode(&world)
 }
 
+/// No record of as many steps is longer: every column at its greatest.
+pub fn longest(sheet: &Sheet) -> usize {
+    let start = "start 255\n".len();
+    let step = "8000 8 3 7 65535 3 4294967295\n".len();
+    start + step * sheet.steps.len() + "end 8256 8000 8000 256\n".len()
+}
+
 /// What is lent to a rehearsal.
 struct Room {
     world: Lent,
@@ -126,7 +144,7 @@ impl Room {
 
 fn rehearses(bytes: &[u8], sheet: &Sheet) -> Result<(), String> {
     let (record, _) = rehearse(bytes);
-    let mut room = Room::of(SIZE, RECORD, LENGTH + 1);
+    let mut room = Room::of(SIZE, longest(sheet), LENGTH + 1);
     same("rehearse", room.rehearse(bytes), 0)?;
     let (front, past) = room.record.bytes().split_at(record.len());
     same("the record", front == record.as_bytes(), true)?;
@@ -136,8 +154,14 @@ fn rehearses(bytes: &[u8], sheet: &Sheet) -> Result<(), String> {
     same("told", room.told.bytes(), &told[..])?;
     same_world(room.world.bytes(), &last_world(sheet), "the second program")?;
     room.margins()?;
-    for (world, told, number) in [(SIZE, LENGTH - 1, 8), (SIZE - 1, LENGTH, 1), (0, 0, 8)] {
-        let mut room = Room::of(world, RECORD, told);
+    let longest = longest(sheet);
+    for (world, record, told, number) in [
+        (SIZE, longest, LENGTH - 1, 8),
+        (SIZE - 1, longest, LENGTH, 1),
+        (0, 0, 0, 8),
+        (SIZE, longest - 1, LENGTH, 8),
+    ] {
+        let mut room = Room::of(world, record, told);
         same("refused", room.rehearse(bytes), number)?;
         room.kept()?;
     }

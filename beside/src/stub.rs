@@ -3,7 +3,7 @@
 
 use crate::both;
 use crate::engine::{LENGTH, TOLD};
-use crate::rehearsed::last_world;
+use crate::rehearsed::{last_world, longest};
 use second::good::good_world;
 use second::image::{decode, encode, SIZE, TAIL_AT};
 use second::record::rehearse;
@@ -245,7 +245,7 @@ fn rehearsed_in(bytes: &[u8], world: &mut [u8], out: &mut [u8], told: &mut [u8])
         }
         return Answer::BadSheet;
     };
-    if out.len() < record.len() {
+    if out.len() < longest(&sheet) {
         return Answer::NoRoom;
     }
     let mut length = (record.len() as u32).to_be_bytes();

@@ -2,7 +2,7 @@
 //! steps of generated sheets. Not in the gate.
 
 use beside::engine::{self, TOLD};
-use beside::rehearsed::RECORD;
+use beside::rehearsed::longest;
 use second::generate;
 use second::image::SIZE;
 use second::sheet::{read, Sheet};
@@ -34,7 +34,7 @@ fn main() {
 fn depths(bytes: &[u8], sheet: &Sheet) -> [usize; 6] {
     let mut world = vec![0; SIZE];
     let mut told = [0; TOLD];
-    let mut record = vec![0; RECORD];
+    let mut record = vec![0; longest(sheet)];
     let start = engine::stack(|| {
         black_box(engine::start(&mut world, sheet.mask));
     });

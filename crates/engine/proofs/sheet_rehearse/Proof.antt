@@ -1,9 +1,6 @@
 -- `engine::sheet_rehearse` meets its contract. Assumes nothing.
 use mathlib.Core.Path.{ap}
 use native.Mathlib.Omega.{arith}
-use lib.ListN.{getD}
-use mir.Syntax.{w8}
-use mir.Val.{Fits}
 use borrow.Author.Needs.{needs}
 use Rattle.world.specs.declared.run.Rehearsed.{Rehearsed}
 use Rattle.rules.proofs.Longest.{longest-is}
@@ -26,9 +23,10 @@ returns-2 c =
 cast-put-length : tie.Need-cast-put-length
 cast-put-length c =
     let ran = c .before .before .before .before .before .before .before .before in
-    let a = ran .before .before .before .before .before .before .before .before .args in
-    let byte : Fits w8 (getD (a .sheet .now) 5 0) = search needs in
-    omega (arith, answer-long (a .sheet .now) (a .world .now) (a .out .now) (byte .fits), longest-is 8000, ap (λ (r : Rehearsed). r .length) (ran .rehearse .ensures .0))
+    let known = ran .before .before .before .before .before .before .before in
+    let a = known .before .args in
+    let long = answer-long (a .sheet .now) (a .world .now) (a .out .now) (known .shared-slice-known .given 5 .fits) in
+    omega (arith, long, longest-is 8000, ap (λ (r : Rehearsed). r .length) (ran .rehearse .ensures .0))
 
 returns-3 : tie.Need-returns-3
 returns-3 c =
