@@ -179,7 +179,7 @@ abbrev unclean : Body
 unclean = record { kind = 2; first = 1; second = 0; tries = 0; sequence = rowOf (3 ∷ []); pair = freshPair; updates = 9 }
 
 pub messages-plain-as-it-is : ¬ ((b : Body) → T (in-Body b) → b ≡ madeWith (b .sequence) (bodyOf b))
-unfolding madeWith bodyOf bodyIn
+unfolding madeWith bodyOf bodyIn rowOf
 messages-plain-as-it-is p = differ updates (p unclean tt) tt
 
 pub messages-plain-with-a-sequence-always : ¬ ((b : Body) → T (in-Body b)
@@ -188,7 +188,7 @@ unfolding madeWith bodyOf bodyIn rowOf
 messages-plain-with-a-sequence-always p = differ many (p unclean tt) tt
 
 pub messages-plain-emptied : ¬ ((b : Body) → T (in-Body b) → made (rules.ack 0) ≡ madeWith (b .sequence) (bodyOf b))
-unfolding madeWith bodyOf bodyIn
+unfolding madeWith bodyOf bodyIn rowOf
 messages-plain-emptied p = differ kind (p unclean tt) tt
 
 abbrev receivers : Sending → ℕ
@@ -211,7 +211,7 @@ messages-to-members-to-nobody p = differ receivers (p 3 (blankOf 11) tt tt) tt
 
 pub messages-to-members-another-body : ¬ ((v : ℕ) (body : Body) → T (in-u16 v) → T (in-Body body)
     → sendTo (members v) (blankOf (body .kind)) ≡ sendTo (members v) body)
-unfolding madeWith blankOf
+unfolding madeWith blankOf rowOf
 messages-to-members-another-body p = differ (λ (s : Sending). tries (s .body)) (p 3 (made (rules.ack 5)) tt tt) tt
 
 pub messages-to-both-to-old-members-only : ¬ ((v w : ℕ) (body : Body) → T (in-u16 v) → T (in-u16 w) → T (in-Body body)

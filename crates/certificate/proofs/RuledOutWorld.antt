@@ -1,5 +1,5 @@
 -- Wrong programs that the promises rule out: good, world and engine. Assumes nothing.
-use mathlib.Core.Path.{_≡_, sym, ap, _∙_}
+use mathlib.Core.Path.{_≡_, refl, sym, ap, _∙_}
 use mathlib.Core.Bool.{Bool, true, false, not, _&&_}
 use mathlib.Core.List.{List, [], _∷_, _++_}
 use Prim.Native.Nat.{ℕ}
@@ -21,7 +21,8 @@ use Rattle.rules.specs.Examples.{recorded}
 use Rattle.rules.proofs.Kept.{step-keeps, run-keeps}
 use Rattle.rules.proofs.ImageWidths.{length-image}
 use Rattle.rules.proofs.ImageWorld.{image-injective}
-use Rattle.sheet.specs.Writing.{listed, ruled, bufferOf}
+use Rattle.sheet.specs.Writing as writing
+use Rattle.sheet.specs.Writing.{listed, bufferOf}
 use Rattle.record.specs.Lines.{laid}
 use Rattle.world.specs.Answer.{reportOf, lentOf}
 use Rattle.world.specs.Playing.{roomFor, decided, answerBy, laidBy, worldBy, rehearseAnswer, worldLeft, recordLeft}
@@ -126,21 +127,21 @@ world-rehearse-answer-done-always p = differ (λ (r : Rehearsed). r .answer) (p 
 
 -- with a world of the right length
 module _ (world : List ℕ) (e : length world ≡ 65536) (sheet out : List ℕ) where
-  decided-there : decided sheet world out ≡ roomFor (length out) (sheetIn sheet)
+  ruled-there : decided sheet world out ≡ roomFor (length out) (sheetIn sheet)
   unfolding decided
-  decided-there = rw e
+  ruled-there = rw e
 
   answered-there : rehearseAnswer sheet world out ≡ answerBy out (roomFor (length out) (sheetIn sheet))
   unfolding rehearseAnswer
-  answered-there = ap (answerBy out) decided-there
+  answered-there = ap (answerBy out) ruled-there
 
   left-there : worldLeft sheet world out ≡ worldBy world (roomFor (length out) (sheetIn sheet))
   unfolding worldLeft
-  left-there = ap (worldBy world) decided-there
+  left-there = ap (worldBy world) ruled-there
 
   printed-there : recordLeft sheet world out ≡ laidBy out (roomFor (length out) (sheetIn sheet))
   unfolding recordLeft
-  printed-there = ap (laidBy out) decided-there
+  printed-there = ap (laidBy out) ruled-there
 
 -- a test of the world's length, where it is right
 long-right : {A : Type 0} (world : List ℕ) → length world ≡ 65536 → (a b : A) → (if eqb (length world) 65536 && true then a else b) ≡ a
@@ -336,18 +337,18 @@ engine-sheet-check-1-for-a-bad-one p = differ itself (p [] tt) tt
 
 -- a kind and an id without a value, in a buffer with room
 pub engine-sheet-write-answer-done-always : ¬ ((buf : List ℕ) (mask : ℕ) (kinds ids values : List ℕ) → T (in-bytes buf) → T (in-u8 mask) → T (in-bytes kinds) → T (in-bytes ids) → T (in-u32s values)
-    → 0 ≡ sheets.number (ruled buf mask kinds ids values))
-unfolding ruled
+    → 0 ≡ sheets.number (writing.ruled buf mask kinds ids values))
+unfolding writing.ruled
 engine-sheet-write-answer-done-always p = differ itself (p page 1 (5 ∷ []) (0 ∷ []) [] tt tt tt tt tt) tt
 
 pub engine-sheet-write-answer-of-the-shortest : ¬ ((buf : List ℕ) (mask : ℕ) (kinds ids values : List ℕ) → T (in-bytes buf) → T (in-u8 mask) → T (in-bytes kinds) → T (in-bytes ids) → T (in-u32s values)
-    → sheets.number (sheets.written buf mask (listed kinds ids values)) ≡ sheets.number (ruled buf mask kinds ids values))
-unfolding ruled listed sheets.written sheets.sheetBytes sheets.stepsBytes
+    → sheets.number (sheets.written buf mask (listed kinds ids values)) ≡ sheets.number (writing.ruled buf mask kinds ids values))
+unfolding writing.ruled listed sheets.written sheets.sheetBytes sheets.stepsBytes
 engine-sheet-write-answer-of-the-shortest p = differ itself (p page 1 (5 ∷ []) (0 ∷ []) [] tt tt tt tt tt) tt
 
 pub engine-sheet-write-left-as-it-was : ¬ ((buf : List ℕ) (mask : ℕ) (kinds ids values : List ℕ) → T (in-bytes buf) → T (in-u8 mask) → T (in-bytes kinds) → T (in-bytes ids) → T (in-u32s values)
-    → buf ≡ bufferOf buf (ruled buf mask kinds ids values))
-unfolding ruled listed sheets.written sheets.sheetBytes sheets.stepsBytes
+    → buf ≡ bufferOf buf (writing.ruled buf mask kinds ids values))
+unfolding writing.ruled listed sheets.written sheets.sheetBytes sheets.stepsBytes
 engine-sheet-write-left-as-it-was p = differ (entry 0) (p page 1 [] [] [] tt tt tt tt tt) tt
 
 -- told too short for the length, and a world of no length: BAD WORLD
@@ -358,22 +359,22 @@ engine-sheet-rehearse-answer-done-always p = differ itself (p blank one page [] 
 
 pub engine-sheet-rehearse-answer-before-told : ¬ ((sheet world out told : List ℕ) → T (in-bytes sheet) → T (in-bytes world) → T (in-bytes out) → T (in-bytes told)
     → rehearseAnswer sheet world out .answer ≡ toldRehearsal sheet world out told .answer)
-unfolding rehearseAnswer toldRehearsal
+unfolding rehearseAnswer decided answerBy toldRehearsal
 engine-sheet-rehearse-answer-before-told p = differ itself (p blank [] page [] tt tt tt tt) tt
 
 pub engine-sheet-rehearse-last-run-untold : ¬ ((sheet world out told : List ℕ) → T (in-bytes sheet) → T (in-bytes world) → T (in-bytes out) → T (in-bytes told)
-    → worldLeft sheet world ≡ toldRehearsal sheet world out told .last)
-unfolding toldRehearsal
-engine-sheet-rehearse-last-run-untold p = starts-differ (sym (p blank two page [] tt two-bytes tt tt) ∙ left-there blank two (length-image (start 2)) refl)
+    → worldLeft sheet world out ≡ toldRehearsal sheet world out told .last)
+unfolding toldRehearsal longest line digits sheetIn stepsIn allZerosIn lastWorld
+engine-sheet-rehearse-last-run-untold p = starts-differ (sym (p blank two wide [] tt two-bytes tt tt) ∙ left-there two two-long blank wide)
 
 pub engine-sheet-rehearse-printed-nothing : ¬ ((sheet world out told : List ℕ) → T (in-bytes sheet) → T (in-bytes world) → T (in-bytes out) → T (in-bytes told)
     → out ≡ toldRehearsal sheet world out told .printed)
-unfolding toldRehearsal laid sheetIn stepsIn allZerosIn recorded rehearsed
-engine-sheet-rehearse-printed-nothing p = differ (entry 0) (p blank one page (replicate 4 7) tt one-bytes tt tt ∙ printed-there blank page) tt
+unfolding toldRehearsal laidBy longest sheetIn stepsIn allZerosIn recorded
+engine-sheet-rehearse-printed-nothing p = differ (entry 0) (p blank one wide (replicate 4 7) tt one-bytes tt tt ∙ printed-there one one-long blank wide) tt
 
 pub engine-sheet-rehearse-length-told-by-a-refusal : ¬ ((sheet world out told : List ℕ) → T (in-bytes sheet) → T (in-bytes world) → T (in-bytes out) → T (in-bytes told)
     → placed told 0 (be32 (rehearseAnswer sheet world out .length)) ≡ toldRehearsal sheet world out told .told)
-unfolding rehearseAnswer toldRehearsal bytesOf placed splice
+unfolding rehearseAnswer decided answerBy toldRehearsal bytesOf placed splice
 engine-sheet-rehearse-length-told-by-a-refusal p = differ (entry 0) (p blank [] page (replicate 4 7) tt tt tt tt) tt
 
 -- told after an answer
@@ -382,5 +383,5 @@ toldAfter r = if eqb (r .answer) 0 then be32 (r .length) ++ [] else replicate 4 
 
 pub engine-sheet-rehearse-length-not-told : ¬ ((sheet world out told : List ℕ) → T (in-bytes sheet) → T (in-bytes world) → T (in-bytes out) → T (in-bytes told)
     → told ≡ toldRehearsal sheet world out told .told)
-unfolding toldRehearsal fittedOf sheetIn stepsIn allZerosIn recorded rehearsed bytesOf
-engine-sheet-rehearse-length-not-told p = differ (entry 0) (p blank one page (replicate 4 7) tt one-bytes tt tt ∙ ap toldAfter (answered-there blank page)) tt
+unfolding toldRehearsal answerBy longest sheetIn stepsIn allZerosIn recorded rehearsed bytesOf
+engine-sheet-rehearse-length-not-told p = differ (entry 0) (p blank one wide (replicate 4 7) tt one-bytes tt tt ∙ ap toldAfter (answered-there one one-long blank wide)) tt
