@@ -1,5 +1,5 @@
 -- Demand 3 holds of document 01's worked example: the statement has an instance with a write and a read in it. Assumes nothing.
-use mathlib.Core.Path.{_≡_, refl, ap}
+use mathlib.Core.Path.{_≡_, refl, sym, ap, _∙_}
 use mathlib.Core.Logic.{_⊎_, inl, inr}
 use mathlib.Core.Bool.{true, true≢false}
 use mathlib.Core.List.{List, [], _∷_, List·Memᴰ·head, List·Memᴰ·tail, List·Memᴰ·not-nil, List·Memᴰ·cases-cons, List·Memᴰ·eq-of-singleton}
@@ -57,8 +57,11 @@ back : (o : Operation) → (o ≡ had) ⊎ (o ∈ (wrote ∷ [])) → o ∈ oper
 back o (inl e) = rw ops (List·Memᴰ·tail (List·Memᴰ·head e))
 back o (inr h) = rw ops (List·Memᴰ·head (List·Memᴰ·eq-of-singleton h))
 
+apart : had .desk ≡ wrote .desk → ⊥
+apart e = omega arith
+
 differ : had ≡ wrote → ⊥
-differ e = let z : _≡_ {A = ℕ} 1 0 = ap (λ (o : Operation). o .desk) e in omega arith
+differ e = apart (ap (λ (o : Operation). o .desk) e)
 
 last : Next had (wrote ∷ [])
 unfolding latest greater compared sign
@@ -88,6 +91,8 @@ demand3-worked =
       nested = λ u v mu mv. inl (both-one u v (one-view u mu) (one-view v mv));
       lasted = λ o m. lasted o (List·Memᴰ·cases-cons (rw ops at m));
       events = λ o m. events o (List·Memᴰ·cases-cons (rw ops at m));
+      single = λ o p m n d b. single o p (List·Memᴰ·cases-cons (rw ops at m)) (List·Memᴰ·cases-cons (rw ops at n)) d;
+      over = λ o p m n d b. List·Memᴰ·not-nil (rw open-writes at n);
       order = had ∷ wrote ∷ [];
       complete = complete;
       sound = λ o m. ended (back o (List·Memᴰ·cases-cons m));
@@ -101,6 +106,13 @@ demand3-worked =
     events : (o : Operation) → (o ≡ wrote) ⊎ (o ∈ (had ∷ [])) → o .event ≡ eventOf (o .task)
     events o (inl e) = rw e
     events o (inr h) = rw (List·Memᴰ·eq-of-singleton h)
+
+    -- the two are of different desks
+    single : (o p : Operation) → (o ≡ wrote) ⊎ (o ∈ (had ∷ [])) → (p ≡ wrote) ⊎ (p ∈ (had ∷ [])) → o .desk ≡ p .desk → o ≡ p
+    single o p (inl e) (inl f) d = e ∙ sym f
+    single o p (inl e) (inr h) d = absurd (apart (sym (rw (e, List·Memᴰ·eq-of-singleton h) at d)))
+    single o p (inr h) (inl e) d = absurd (apart (rw (e, List·Memᴰ·eq-of-singleton h) at d))
+    single o p (inr h) (inr k) d = List·Memᴰ·eq-of-singleton h ∙ sym (List·Memᴰ·eq-of-singleton k)
 
     both-one : (u v : ℕ) → u ≡ 1 → v ≡ 1 → within u v ≡ true
     both-one u v eu ev = rw (eu, ev)

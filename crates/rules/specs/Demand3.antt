@@ -1,7 +1,7 @@
--- DEMAND 3, as a type over runs: of any two views that ever opened one holds every update of the other; what ended had begun in a step before, and ended
--- with event 2 if it was a read, with event 3 if it was a write; and the operations that ended, with the unfinished writes that some read returned, stand
--- in one order in which each read returns the write before it and each write has the value that it was told, which agrees with what had ended before what
--- began, and along which stamps never fall. Assumes nothing.
+-- DEMAND 3, as a type over runs: of any two views that ever opened one holds every update of the other; what ended had begun in a step before, ended once,
+-- and with event 2 if it was a read, with event 3 if it was a write; and the operations that ended, with the unfinished writes that some read returned,
+-- stand in one order in which each read returns the write before it and each write has the value that it was told, which agrees with what had ended before
+-- what began, and along which stamps never fall. Assumes nothing.
 use mathlib.Core.Path.{_≡_}
 use mathlib.Core.Logic.{_⊎_}
 use mathlib.Core.Bool.{Bool, true, false}
@@ -63,6 +63,9 @@ pub record Demand3 (mask : ℕ) (ks : List Step) : Type 0 where
   pub lasted : (o : Operation) → o ∈ operations mask ks → (0 < o .begun) × (o .begun < o .ended)
   -- a read ended with event 2 and a write with event 3, so event 2 ended reads only and event 3 writes only
   pub events : (o : Operation) → o ∈ operations mask ks → o .event ≡ eventOf (o .task)
+  -- an operation ends once (a step ends at most one): of what ended, two of one desk that began in the same step are one, and none is left unfinished
+  pub single : (o p : Operation) → o ∈ operations mask ks → p ∈ operations mask ks → o .desk ≡ p .desk → o .begun ≡ p .begun → o ≡ p
+  pub over : (o p : Operation) → o ∈ operations mask ks → p ∈ unfinished mask ks → o .desk ≡ p .desk → o .begun ≡ p .begun → ⊥
   pub order : List Operation
   pub complete : (o : Operation) → Belongs mask ks o → o ∈ order
   pub sound : (o : Operation) → o ∈ order → Belongs mask ks o

@@ -13,7 +13,7 @@ use Rattle.rules.specs.History.{Operation, Told, unfinishedIn}
 use Rattle.rules.specs.Demand3.{_∈_, isRead, eventOf, written, latest, Next, Ordered, first, next}
 use Rattle.safety.proofs.Sequences.{Comparable, same, inner, outer}
 use Rattle.safety.proofs.Numbers.{num, stampOf, pairOf, stamps-rise}
-use Rattle.safety.proofs.Log.{Task, reading, writing, Op, Log, _∋_, begin, settle}
+use Rattle.safety.proofs.Log.{Task, reading, writing, Op, Log, _∋_, begin, settle, finish}
 use Rattle.safety.proofs.Past.{back, past-has, why}
 use Rattle.safety.proofs.Operations.{settle-once, write-value}
 use Rattle.safety.proofs.Order.{Ops, _contains_, Counts, ended, returned, pick, latest as last-write, Next as NextInLog, Lined, lined-nil, lined-cons, Descending, desc-cons}
@@ -78,7 +78,7 @@ module _ {old : Log} {mask i : ℕ} {w : World} {ts : List Told} {ops : List Ope
       let s : h .0 .stamp ≡ k .0 .stamp = number-of (ap (λ (x : Operation). x .pair .stamp) (h .2) ∙ e ∙ ap (λ (x : Operation). x .pair .stamp) (sym (k .3))) in
       (k .0, returned (k .1) (k .2) (h .1) z s, k .3)
 
-  -- ---- names are given once
+  -- ---- names are given once: its desk and the step with which it began tell an operation
 
   counts-settled : {o : Op} → Counts log o → log ∋ settle o
   counts-settled (ended f) = finish-begun (R .sound) f .0
@@ -87,13 +87,26 @@ module _ {old : Log} {mask i : ℕ} {w : World} {ts : List Told} {ops : List Ope
   settled-begun : {o : Op} → log ∋ settle o → log ∋ begin (o .desk) (o .try) (o .task)
   settled-begun s = let x = why (R .sound) s in past-has (back (x .past)) (x .is .begun)
 
-  name-once : {o p : Op} → log ∋ settle o → log ∋ settle p → name o ≡ name p → o ≡ p
-  name-once {o} {p} s t e =
-      let d : o .desk ≡ p .desk = ap (λ (x : Operation). x .desk) e in
-      let b : R .book .begins (o .desk) (o .try) ≡ R .book .begins (p .desk) (p .try) = ap (λ (x : Operation). x .begun) e in
+  name-once : {o p : Op} {x y : Operation} → log ∋ settle o → log ∋ settle p → name o ≡ x → name p ≡ y → x .desk ≡ y .desk → x .begun ≡ y .begun → o ≡ p
+  name-once {o} {p} s t e f g h =
+      let d : o .desk ≡ p .desk = rw (sym e, sym f) at g in
+      let b : R .book .begins (o .desk) (o .try) ≡ R .book .begins (p .desk) (p .try) = rw (sym e, sym f) at h in
       let m = subst (λ (z : ℕ). log ∋ begin z (p .try) (p .task)) (sym d) (settled-begun t) in
       settle-once (R .sound) s t d
       (R .book .dates .apart (o .desk) (o .try) (p .try) (o .task) (p .task) (settled-begun s) m (b ∙ ap (λ (z : ℕ). R .book .begins z (p .try)) (sym d)))
+
+  -- so an operation ends once, and what has ended is not left unfinished
+  pub ended-once : (p q : Operation) → p ∈ ops → q ∈ ops → p .desk ≡ q .desk → p .begun ≡ q .begun → p ≡ q
+  ended-once p q m n d b =
+      let k = R .book .known p m in
+      let h = R .book .known q n in
+      sym (k .2) ∙ ap name (name-once (finish-begun (R .sound) (k .1) .0) (finish-begun (R .sound) (h .1) .0) (k .2) (h .2) d b) ∙ h .2
+
+  pub ended-over : (p q : Operation) → p ∈ ops → q ∈ unfinishedIn ts 0 (w .desks) → p .desk ≡ q .desk → p .begun ≡ q .begun → ⊥
+  ended-over p q m n d b =
+      let k = R .book .known p m in
+      let h = unfinished-known R q n in
+      h .4 (subst (λ (o : Op). log ∋ finish o) (name-once (finish-begun (R .sound) (k .1) .0) (h .1) (k .2) (h .3) d b) (k .1))
 
   -- ---- the order
 
@@ -112,7 +125,7 @@ module _ {old : Log} {mask i : ℕ} {w : World} {ts : List Told} {ops : List Ope
       → Next (name o) (map name r)
   unfolding pairOf
   next-named {o} {r} s all N low = record {
-    once = λ m. let k = Memᴰ·of-map name r m in N .once (Memᴰ·cast (name-once s (all (k .0) (k .1)) (sym (k .2))) (k .1));
+    once = λ m. let k = Memᴰ·of-map name r m in N .once (Memᴰ·cast (name-once s (all (k .0) (k .1)) refl (k .2) refl refl) (k .1));
     timely = λ p m b. let k = Memᴰ·of-map name r m in timely (k .0) (k .1) (b .0) (subst (λ (x : Operation). R .book .ends (o .desk) (o .try) < x .begun) (sym (k .2)) (b .1));
     returns = λ e. latest-named r ∙ ap (λ (x : ℕ × ℕ). pairOf (x .0) (x .1)) (N .returns (read-task (o .task) e));
     wrote = λ x e. write-value (R .sound) s e;

@@ -68,8 +68,8 @@ module _ {old : Log} {first i : ℕ} {w : World} {ts : List Told} {ops : List Op
 
   -- the write that the desk n puts
   putting-named : (n : ℕ) (d : Desk) {o : Op} → Acks (R .log) n d o → Doing (R .log) n (d .tries) (d .view) (putting o)
-      → (R .log ∋ settle o) × (named o ≡ operation ts n 0 0 (d .holds))
-  putting-named n d {o} A (puts e b s q f) = (s, same)
+      → (R .log ∋ settle o) × (named o ≡ operation ts n 0 0 (d .holds)) × (R .log ∋ finish o → ⊥)
+  putting-named n d {o} A (puts e b s q f) = (s, same, f)
     where
       open-still : Done (R .log) n (o .try) → ⊥
       open-still x = f (done-finish s (x .0, x .1, x .2 ∙ sym e, x .3))
@@ -82,7 +82,8 @@ module _ {old : Log} {first i : ℕ} {w : World} {ts : List Told} {ops : List Op
           let p : pairOf (o .stamp) (o .value) ≡ d .holds = (λ j. pairOf (A .stamp-is j) (A .value-is j)) ∙ pair-back (d .holds) (A .small) in
           λ j. record { desk = e j; task = sym c j .task; begun = g j; ended = z j; event = eventAt (z j) (o .task); pair = p j }
 
-  pub unfinished-known : (p : Operation) → p ∈ unfinishedIn ts 0 (w .desks) → (o : Op) × (R .log ∋ settle o) × Writes o × (named o ≡ p)
+  pub unfinished-known : (p : Operation) → p ∈ unfinishedIn ts 0 (w .desks)
+      → (o : Op) × (R .log ∋ settle o) × Writes o × (named o ≡ p) × (R .log ∋ finish o → ⊥)
   unfinished-known p m =
       let k = by-desk ts 0 (w .desks) m in
       let e : 0 + k .0 ≡ k .0 = omega arith in
@@ -91,14 +92,14 @@ module _ {old : Log} {first i : ℕ} {w : World} {ts : List Told} {ops : List Op
     where
       go : {n : ℕ} {d : Desk} {g : Phase} {s : Stage} → Phased (R .log) n d g s → DeskFacts (R .log) n (d .tries) (d .view) s
           → p ∈ unfinishedBy ts n g (d .holds)
-          → (o : Op) × (R .log ∋ settle o) × Writes o × (named o ≡ p)
+          → (o : Op) × (R .log ∋ settle o) × Writes o × (named o ≡ p) × (R .log ∋ finish o → ⊥)
       go at-rest f m = absurd (List·Memᴰ·not-nil m)
       go (at-read1 F) f m = absurd (List·Memᴰ·not-nil m)
       go (at-write1 F) f m = absurd (List·Memᴰ·not-nil m)
       go (at-read2 t A) f m = absurd (List·Memᴰ·not-nil m)
       go {n} {d} (at-write2 {o = o} t A) f m =
           let h = putting-named n d A (f .doing) in
-          (o, h .0, (d .holds .value, t), h .1 ∙ sym (List·Memᴰ·eq-of-singleton m))
+          (o, h .0, (d .holds .value, t), h .1 ∙ sym (List·Memᴰ·eq-of-singleton m), h .2)
 
   -- a settled write has ended, or is unfinished
   pub settled-write : {o : Op} → R .log ∋ settle o → Writes o → (R .log ∋ finish o) ⊎ (named o ∈ unfinishedIn ts 0 (w .desks))
