@@ -8,6 +8,9 @@ use std::time::Instant;
 /// A broken engine fails everywhere; the first failures of each part tell enough.
 const SHOWN: usize = 20;
 
+/// Of a whole run; a sheet of which one step is taken counts as much as one of 8,000.
+const LEAST_STEPS: u64 = 130_000;
+
 #[derive(Default)]
 pub struct Tally {
     pub passed: usize,
@@ -82,6 +85,9 @@ impl Tally {
 
     /// Comparisons that met nothing compare nothing.
     pub fn check_met(&mut self) {
+        let enough = self.steps >= LEAST_STEPS;
+        let result = enough.then_some(()).ok_or(format!("only {}", self.steps));
+        self.check("steps", result);
         for answer in 0..=8 {
             let met = self.coverage.answers[answer] > 0;
             let result = met.then_some(()).ok_or("never met".to_string());

@@ -59,6 +59,11 @@ fn main() -> ExitCode {
     tally.part("damaged worlds", |tally| damaged::all(damaged, from, tally));
     tally.part("what was met", Tally::check_met);
     tally.print();
-    println!("{} passed, {} failed", tally.passed, tally.failed);
+    let told = if cfg!(feature = "stub") {
+        " of the stub"
+    } else {
+        ""
+    };
+    println!("{} passed, {} failed{told}", tally.passed, tally.failed);
     ExitCode::from(u8::from(tally.failed > 0))
 }

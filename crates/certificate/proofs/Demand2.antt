@@ -24,14 +24,15 @@ use Rattle.rules.proofs.Kept.{good-facts, step-keeps, always-good}
 use Rattle.rules.proofs.Starts.{start-good}
 use Rattle.rules.proofs.Counts.{places-all, run-few, sent-is-sum}
 use Rattle.rules.proofs.ImageWidths.{length-image}
-use Rattle.rules.proofs.ImageWorld.{image-good, image-injective}
+use Rattle.rules.proofs.ImageWorld.{world-back, image-good, image-injective}
 use Rattle.record.specs.Lines.{laid}
 use Rattle.record.proofs.Laying.{laid-whole}
 use Rattle.record.proofs.Whole.{printed-is}
 use Rattle.world.specs.Answer.{lentOf, columns}
 use Rattle.world.specs.declared.Answer.{Answer}
 use Rattle.world.specs.Playing.{decided, laidBy, recordLeft}
-use Rattle.certificate.specs.Demand2.{outcomeLine}
+use Rattle.certificate.specs.Code.{Code}
+use Rattle.certificate.specs.Demand2.{ranBy, toldBy, outcomeLine, Demand2}
 use Rattle.certificate.proofs.Differ.{differ, entry}
 use Rattle.certificate.proofs.EndLine.{Small, end-read}
 use Rattle.certificate.proofs.Worlds.{one, one-formed, one-good, write, deliver, step-of}
@@ -201,6 +202,42 @@ show-in-a-run f promised idle e =
     let good : goodBytes (f .leaves 0 one write) ≡ true = rw is used-good in
     let other : ¬ Fresh (f .leaves 0 one write) = rw is used-not-fresh in
     delivered-moves (sym (idle 0 (f .leaves 0 one write) deliver good other ∙ is) ∙ e)
+
+-- ---- the same of every program that meets demand 2 as it is stated (specs/Demand2)
+
+module _ (c : Code) (d : Demand2 c) where
+  -- its answer and its buffer after one step of a good world
+  answers-as : (W : World) → wellFormed W ≡ true → (k : Step) → c .step (image W) k .number ≡ answer (stepped W k)
+  unfolding toldBy outcomes columns
+  answers-as W good k =
+      rw (world-back W good) at (ap (λ (l : List (List ℕ)). getD (getD l 0 []) 0 0) (d .run (image W) (image-good W good) (k ∷ []) .1))
+
+  leaves-as : (W : World) → wellFormed W ≡ true → (k : Step) → c .step-world (image W) k ≡ image (after W (stepped W k))
+  unfolding ranBy lastWorld
+  leaves-as W good k = rw (world-back W good) at (d .run (image W) (image-good W good) (k ∷ []) .0)
+
+  one-done : c .step one write .number ≡ 0
+  unfolding recorded
+  one-done = answers-as (start 1) one-formed write
+
+  one-empty : c .step one deliver .number ≡ 3
+  unfolding recorded
+  one-empty = answers-as (start 1) one-formed deliver
+
+  pub demand2-refusing-everything : ¬ ((w : List ℕ) (k : Step) → goodBytes w ≡ true → 0 < c .step w k .number)
+  demand2-refusing-everything p = omega (arith, p one write one-good, one-done)
+
+  pub demand2-one-constant-reply : (a : Answer) → ¬ ((w : List ℕ) (k : Step) → goodBytes w ≡ true → c .step w k ≡ a)
+  demand2-one-constant-reply a p =
+      let same : c .step one write .number ≡ c .step one deliver .number = ap (λ (x : Answer). x .number) (p one write one-good ∙ sym (p one deliver one-good)) in
+      omega (arith, same, one-done, one-empty)
+
+  pub demand2-no-work-at-all : ¬ ((w : List ℕ) (k : Step) → goodBytes w ≡ true → c .step-world w k ≡ w)
+  demand2-no-work-at-all p = write-moves (sym (p one write one-good) ∙ leaves-as (start 1) one-formed write)
+
+  -- work in worlds that are a start, and show in all others
+  pub demand2-show-afterwards : ¬ ((w : List ℕ) (k : Step) → goodBytes w ≡ true → ¬ Fresh w → c .step-world w k ≡ w)
+  demand2-show-afterwards p = delivered-moves (sym (p (image used) deliver used-good used-not-fresh) ∙ leaves-as used used-formed deliver)
 
 -- ---- "Invented totals are ruled out by the tie to the steps taken."
 

@@ -7,7 +7,7 @@ use Prim.Native.Nat.{ℕ, zero, suc, _+_, _*_, _≤_, _<_}
 use native.Mathlib.Omega.{arith}
 use lib.Dec.{eqb, leb, ltb, lit≤}
 use lib.ListN.{length, getD, take, drop}
-use borrow.Author.Tests.{leb-false, ltb-true, ltb-false, eqb-false}
+use borrow.Author.Tests.{ltb-true, ltb-false, eq-eqb, ne-eqb, lt-leb, le-ltb}
 use Rattle.views.proofs.Truth.{contrary}
 use Rattle.rules.specs.Sets.{_||_, if_then_else_}
 use Rattle.rules.specs.Messages.{bad-step, number}
@@ -30,17 +30,17 @@ use Rattle.sheet.specs.declared.Sheet as checked
 use Rattle.sheet.specs.declared.Found.{Found}
 use Rattle.sheet.specs.declared.Found.the-variants.{At, End}
 use Rattle.sheet.specs.Reading.{checkOf, stepsFrom}
-use Rattle.sheet.specs.Writing.{listed, kindsOf, idsOf, valuesOf, unequal, ruled, bufferOf, numberOf}
+use Rattle.sheet.specs.Writing.{listed, kindsOf, idsOf, valuesOf, unequal, ruled, ruledSize, sizeIn, bufferOf, numberOf, sizeOf}
 use Rattle.sheet.proofs.Walk.{accepted, count, front, taken-step, taken-end}
 use Rattle.sheet.proofs.Writing as writing
-use Rattle.sheet.proofs.Slices.{sliced, ruled-list}
-use Rattle.sheet.proofs.Back.{again, back, smalls}
+use Rattle.sheet.proofs.Slices.{sliced, listed-back, ruled-list}
+use Rattle.sheet.proofs.Back.{same-bytes, again, back, smalls}
 use Rattle.world.specs.declared.Answer.{Answer}
 use Rattle.world.specs.declared.run.Rehearsed.{Rehearsed}
 use Rattle.world.specs.Answer.{lentOf, columns, reportOf}
-use Rattle.world.specs.Playing.{Ruling, bad-world, bad-sheet, no-room, runs, roomFor, decided, numberBy, answerBy, laidBy, worldBy, rehearseAnswer, worldLeft, recordLeft}
+use Rattle.world.specs.Playing.{Ruling, bad-world, bad-sheet, no-room, runs, roomFor, decided, numberBy, recordBy, answerBy, laidBy, worldBy, rehearseAnswer, worldLeft, recordLeft}
 use Rattle.certificate.specs.Code.{Code, Promised}
-use Rattle.certificate.specs.Demand1.{Rows, BAD-SHEET, stepRows, startRows, checkRows, writeRows, rehearseRows, Numbered, badLaid, checkNumber, Demand1ForAll}
+use Rattle.certificate.specs.Demand1.{Rows, BAD-SHEET, stepRows, startRows, checkRows, writeRows, rehearseRows, Numbered, refusedRecord, checkNumber, Demand1ForAll}
 use Rattle.certificate.specs.Demand2.{ranBy, toldBy, before, readFrom, readBy, Below, Demand2ForAll}
 use Rattle.certificate.specs.Demand2.{outcomeLine}
 use Rattle.certificate.proofs.Demand2.{Program, ran, told, each-step}
@@ -113,15 +113,9 @@ module _ (w : List ℕ) (mask : ℕ) where
       go true false false = record { first = refl; known = lit≤ tt; refused = λ h. absurd (omega arith) }
       go false b c = record { first = refl; known = lit≤ tt; refused = λ h. (refl, refl) }
 
-  start-accepted : lentStart w mask .answer ≡ 0 → (0 < mask) × (mask < 256) × (lentStart w mask .buffer ≡ image (start mask))
+  start-accepted : length w ≡ 65536 → 0 < mask → mask < 256 → lentStart w mask ≡ record { answer = 0; report = noReport; buffer = image (start mask) }
   unfolding lentStart
-  start-accepted = go (eqb (length w) 65536) (eqb mask 0) (leb 256 mask) refl refl
-    where
-      go : (a b c : Bool) → eqb mask 0 ≡ b → leb 256 mask ≡ c → startLeft a b c .answer ≡ 0 → (0 < mask) × (mask < 256) × (startLeft a b c .buffer ≡ image (start mask))
-      go true true c e f h = absurd (omega (arith, h))
-      go true false true e f h = absurd (omega (arith, h))
-      go true false false e f h = let n = eqb-false mask 0 e in (omega (arith, n), leb-false 256 mask f, refl)
-      go false b c e f h = absurd (omega (arith, h))
+  start-accepted long some small = rw (eq-eqb (length w) 65536 long, ne-eqb mask 0 (λ z. omega arith), lt-leb 256 mask small)
 
 -- ---- sheets: checked, read step by step, written
 
@@ -166,10 +160,19 @@ module _ (buf : List ℕ) (mask : ℕ) (kinds ids values : List ℕ) where
       go false true e f = rw (writing.roomless buf mask kinds ids values e (omega (arith, ltb-true (length buf) (6 + 8 * length kinds) f))) (record { known = lit≤ tt; first = refl })
       go false false e f = rw (← writing.done buf mask kinds ids values e (omega (arith, ltb-false (length buf) (6 + 8 * length kinds) f)) .0) (record { known = lit≤ tt; first = refl })
 
-  write-kept : (x : Written) → 0 < sheets.number x → bufferOf buf x ≡ buf
-  write-kept sheets.bad-sheet h = refl
-  write-kept sheets.no-room h = refl
-  write-kept (wrote l) h = absurd (omega arith)
+  ruling-kept : (n : ℕ) (x : Written) → 0 < sheets.number x → (bufferOf buf x ≡ buf) × (sizeIn n x ≡ 0)
+  ruling-kept n sheets.bad-sheet h = (refl, refl)
+  ruling-kept n sheets.no-room h = (refl, refl)
+  ruling-kept n (wrote l) h = absurd (omega arith)
+
+  write-kept : 0 < sheets.number (ruled buf mask kinds ids values) → (bufferOf buf (ruled buf mask kinds ids values) ≡ buf) × (ruledSize buf mask kinds ids values ≡ 0)
+  unfolding ruledSize
+  write-kept h = ruling-kept _ (ruled buf mask kinds ids values) h
+
+  -- how many bytes a sheet that is written has
+  wrote-size : (l : List ℕ) → ruled buf mask kinds ids values ≡ wrote l → ruledSize buf mask kinds ids values ≡ length (sheetBytes mask (listed kinds ids values))
+  unfolding ruledSize
+  wrote-size l e = rw e
 
 -- ---- a sheet that is run
 
@@ -187,16 +190,11 @@ module _ (w out : List ℕ) where
   ruling-world no-room h = refl
   ruling-world (runs mask ks) h = absurd (omega arith)
 
-  ruling-out : (x : Ruling) → 0 < numberBy x → laidBy out x ≡ (if eqb (numberBy x) BAD-SHEET then badLaid out else out)
-  unfolding laidBy
-  ruling-out bad-world h = refl
-  ruling-out bad-sheet h = go (ltb (length out) (length badOf))
-    where
-      go : (b : Bool) → (if b then [] else badOf) ++ drop (length (if b then [] else badOf)) out ≡ (if b then out else badOf ++ drop (length badOf) out)
-      go true = refl
-      go false = refl
-  ruling-out no-room h = refl
-  ruling-out (runs mask ks) h = absurd (omega arith)
+  ruling-record : (x : Ruling) → 0 < numberBy x → recordBy (length out) x ≡ refusedRecord (numberBy x) out
+  ruling-record bad-world h = refl
+  ruling-record bad-sheet h = refl
+  ruling-record no-room h = refl
+  ruling-record (runs mask ks) h = absurd (omega arith)
 
 module _ (b w out : List ℕ) where
   -- by the world's length, the sheet, and the room
@@ -220,15 +218,10 @@ module _ (b w out : List ℕ) where
       go true (sheet mask ks) e = let a = accepted b mask ks e in rw (a .good) (room mask ks (stepsOf b) (count b mask ks a))
       go false s e = refl
 
-  -- where it is run, it is this sheet
-  rehearse-runs : (mask : ℕ) (ks : List Step) → sheetIn b ≡ sheet mask ks → numberBy (decided b w out) ≡ 0 → decided b w out ≡ runs mask ks
+  -- where there is room, this sheet is run
+  rehearse-runs : (mask : ℕ) (ks : List Step) → sheetIn b ≡ sheet mask ks → length w ≡ 65536 → longest (length ks) ≤ length out → decided b w out ≡ runs mask ks
   unfolding decided
-  rehearse-runs mask ks e h = rw e (go (eqb (length w) 65536) (ltb (length out) (longest (length ks))) (rw e at h))
-    where
-      go : (x y : Bool) → numberBy (if x then (if y then no-room else runs mask ks) else bad-world) ≡ 0 → (if x then (if y then no-room else runs mask ks) else bad-world) ≡ runs mask ks
-      go true true h = absurd (omega (arith, h))
-      go true false h = refl
-      go false y h = absurd (omega (arith, h))
+  rehearse-runs mask ks e long room = rw (eq-eqb (length w) 65536 long, e, le-ltb (length out) (longest (length ks)) room)
 
 -- ---- what a program answers and leaves is what was promised
 
@@ -280,16 +273,14 @@ module _ (c : Code) (p : Promised c) where
   run-good : (w : List ℕ) → goodBytes w ≡ true → (ks : List Step) → Follows w (worldAt w) ks
   run-good w good ks = subst (λ (x : List ℕ). Follows x (worldAt w) ks) (good-image w good) (run-of (worldAt w) (good-formed w good) ks)
 
-  started : (w : List ℕ) (mask : ℕ) → c .start w mask .number ≡ 0 → (0 < mask) × (mask < 256) × (c .start-world w mask ≡ image (start mask))
-  started w mask h =
-      let e = p .start-kept w mask in
-      let a = start-accepted w mask (sym (says-number _ _ _ e) ∙ h) in
-      (a .0, a .1, says-buffer _ _ _ e ∙ a .2)
+  module _ (w : List ℕ) (mask : ℕ) (long : length w ≡ 65536) (some : 0 < mask) (small : mask < 256) where
+    started : (c .start w mask .number ≡ 0) × (reportOf (c .start w mask .report) ≡ noReport) × (c .start-world w mask ≡ image (start mask))
+    started =
+        let e = p .start-kept w mask ∙ start-accepted w mask long some small in
+        (says-number _ _ _ e, says-report _ _ _ e, says-buffer _ _ _ e)
 
-  run-started : (w : List ℕ) (mask : ℕ) → c .start w mask .number ≡ 0 → (ks : List Step) → Follows (c .start-world w mask) (start mask) ks
-  run-started w mask h ks =
-      let a = started w mask h in
-      subst (λ (x : List ℕ). Follows x (start mask) ks) (sym (a .2)) (run-of (start mask) (start-good mask (a .0) (a .1)) ks)
+    run-started : (ks : List Step) → Follows (c .start-world w mask) (start mask) ks
+    run-started ks = subst (λ (x : List ℕ). Follows x (start mask) ks) (sym (started .2)) (run-of (start mask) (start-good mask some small) ks)
 
   taken : (w : List ℕ) (k : Step) → c .step w k .number ≡ 0
       → (goodBytes w ≡ true) × (c .step-world w k ≡ image (after (worldAt w) (stepped (worldAt w) k))) × (reportOf (c .step w k .report) ≡ report (stepped (worldAt w) k))
@@ -316,18 +307,26 @@ module _ (c : Code) (p : Promised c) where
       unfolding worldLeft
       rehearse-world-kept = p .rehearse-last b world out ∙ ruling-world world out (decided b world out) refused
 
-      rehearse-out-kept : c .rehearse-out b world out ≡ (if eqb (c .rehearse b world out .answer) BAD-SHEET then badLaid out else out)
-      unfolding recordLeft
-      rehearse-out-kept = rw rehearse-number (p .rehearse-printed b world out ∙ ruling-out world out (decided b world out) refused)
+      rehearse-out-kept : let l = refusedRecord (c .rehearse b world out .answer) out in
+          (c .rehearse-out b world out ≡ l ++ drop (length l) out) × (c .rehearse b world out .length ≡ length l)
+      unfolding recordLeft laidBy rehearseAnswer answerBy
+      rehearse-out-kept =
+          let l : recordBy (length out) (decided b world out) ≡ refusedRecord (c .rehearse b world out .answer) out = rw rehearse-number (ruling-record world out (decided b world out) refused) in (
+            p .rehearse-printed b world out ∙ ap (λ (x : List ℕ). x ++ drop (length x) out) l,
+            ap (λ (r : Rehearsed). r .length) (p .rehearse-answer b world out) ∙ ap length l,
+          )
 
-    rehearsed : (mask : ℕ) (ks : List Step) → sheetIn b ≡ sheet mask ks → c .rehearse b world out .answer ≡ 0
-        → (c .rehearse b world out .length ≡ length (printed mask ks))
+    rehearsed : (mask : ℕ) (ks : List Step) → sheetIn b ≡ sheet mask ks → length world ≡ 65536 → longest (length ks) ≤ length out
+        → (c .rehearse b world out .answer ≡ 0)
+        × (c .rehearse b world out .length ≡ length (printed mask ks))
         × (c .rehearse-world b world out ≡ image (lastWorld (start mask) ks))
         × (c .rehearse-out b world out ≡ printed mask ks ++ drop (length (printed mask ks)) out)
     unfolding rehearseAnswer answerBy worldLeft recordLeft laidBy
-    rehearsed mask ks e h =
-        let is = rehearse-runs b world out mask ks e (sym rehearse-number ∙ h) in (
-          ap (λ (r : Rehearsed). r .length) (p .rehearse-answer b world out ∙ ap (answerBy out) is),
+    rehearsed mask ks e long room =
+        let is = rehearse-runs b world out mask ks e long room in
+        let answer = p .rehearse-answer b world out ∙ ap (answerBy out) is in (
+          ap (λ (r : Rehearsed). r .answer) answer,
+          ap (λ (r : Rehearsed). r .length) answer,
           p .rehearse-last b world out ∙ ap (worldBy world) is,
           p .rehearse-printed b world out ∙ ap (laidBy out) is,
         )
@@ -359,8 +358,8 @@ module _ (c : Code) (p : Promised c) where
       read-all (length b) b 6 (omega (arith, ap length all, count b mask ks a)) ∙ all
 
   sheet-again : (b buf : List ℕ) → Below 256 b → c .check b .bad ≡ false → length b ≤ length buf
-      → let mask = c .check b .mask in let ks = readBy c b in
-      (numberOf (c .write buf mask (kindsOf ks) (idsOf ks) (valuesOf ks)) ≡ 0) × (c .write-buf buf mask (kindsOf ks) (idsOf ks) (valuesOf ks) ≡ b ++ drop (length b) buf)
+      → let ks = readBy c b in let r = c .write buf (c .check b .mask) (kindsOf ks) (idsOf ks) (valuesOf ks) in
+      (numberOf r ≡ 0) × (sizeOf r ≡ length b) × (c .write-buf buf (c .check b .mask) (kindsOf ks) (idsOf ks) (valuesOf ks) ≡ b ++ drop (length b) buf)
   sheet-again b buf each h fits =
       let e = p .check-kept b in
       let a = check-accepted b (sym (ap (λ (s : checked.Sheet). s .bad) e) ∙ h) in
@@ -370,7 +369,11 @@ module _ (c : Code) (p : Promised c) where
       let ks-is : ks ≡ stepsFrom b 6 = read-sheet b (getD b 5 0) (stepsFrom b 6) (a .1) in
       let is : sheetIn b ≡ sheet mask ks = rw (mask-is, ks-is) (a .1) in
       let wrote-is : ruled buf mask (kindsOf ks) (idsOf ks) (valuesOf ks) ≡ wrote (b ++ drop (length b) buf) = ruled-list buf mask ks ∙ again b buf mask ks each is fits in
-      (p .write-answer buf mask (kindsOf ks) (idsOf ks) (valuesOf ks) .0 ∙ ap sheets.number wrote-is, p .write-left buf mask (kindsOf ks) (idsOf ks) (valuesOf ks) ∙ ap (bufferOf buf) wrote-is)
+      let size : ruledSize buf mask (kindsOf ks) (idsOf ks) (valuesOf ks) ≡ length b =
+      wrote-size buf mask (kindsOf ks) (idsOf ks) (valuesOf ks) _ wrote-is ∙ ap (λ (l : List Step). length (sheetBytes mask l)) (listed-back ks) ∙ ap length (same-bytes b buf mask ks each is)
+      in
+      let said = p .write-answer buf mask (kindsOf ks) (idsOf ks) (valuesOf ks) in
+      (said .0 ∙ ap sheets.number wrote-is, said .1 ∙ size, p .write-left buf mask (kindsOf ks) (idsOf ks) (valuesOf ks) ∙ ap (bufferOf buf) wrote-is)
 
   module _ (buf : List ℕ) (mask : ℕ) (kinds ids values : List ℕ) (some : 0 < mask) (same : length ids ≡ length kinds) (alike : length values ≡ length kinds)
       (few : length kinds ≤ 8000) (hk : Below 256 kinds) (hi : Below 256 ids) (hv : Below 4294967296 values) (room : 6 + 8 * length kinds ≤ length buf) where
@@ -408,12 +411,17 @@ module _ (c : Code) (p : Promised c) where
         let n : stepsOf sent ≡ length kinds = count sent mask steps a ∙ long in
         p .check-kept sent ∙ rw (a .good) (λ i. record { bad = false; mask = a .masked i; steps = n i })
 
-    sheet-back : (numberOf (c .write buf mask kinds ids values) ≡ 0) × (c .check sent ≡ record { bad = false; mask = mask; steps = length kinds })
+    sheet-back : (numberOf (c .write buf mask kinds ids values) ≡ 0) × (sizeOf (c .write buf mask kinds ids values) ≡ 6 + 8 * length kinds)
+        × (c .check sent ≡ record { bad = false; mask = mask; steps = length kinds })
         × (kindsOf (readBy c sent) ≡ kinds) × (idsOf (readBy c sent) ≡ ids) × (valuesOf (readBy c sent) ≡ values)
     sheet-back =
         let s = sliced kinds ids values same alike in
         let read : readBy c sent ≡ steps = read-sheet sent mask steps sent-is in
-        (p .write-answer buf mask kinds ids values .0 ∙ ap sheets.number (ruled-is ∙ wrote-is), check-is, ap kindsOf read ∙ s .kinds-are, ap idsOf read ∙ s .ids-are, ap valuesOf read ∙ s .values-are)
+        let said = p .write-answer buf mask kinds ids values in
+        let size : ruledSize buf mask kinds ids values ≡ 6 + 8 * length kinds =
+        wrote-size buf mask kinds ids values _ (ruled-is ∙ wrote-is) ∙ writing.size buf mask steps ∙ ap (λ (n : ℕ). 6 + 8 * n) long
+        in
+        (said .0 ∙ ap sheets.number (ruled-is ∙ wrote-is), said .1 ∙ size, check-is, ap kindsOf read ∙ s .kinds-are, ap idsOf read ∙ s .ids-are, ap valuesOf read ∙ s .values-are)
 
 -- ---- the theorems
 
@@ -428,7 +436,9 @@ demand1 c p =
       step-kept = λ w k. unmoved _ _ _ (p .step-kept w k) w (stepRows w k) (step-said w k);
       start-kept = λ w mask. unmoved _ _ _ (p .start-kept w mask) w (startRows w mask) (start-said w mask);
       write-kept = λ buf mask kinds ids values h.
-          p .write-left buf mask kinds ids values ∙ write-kept buf mask kinds ids values (ruled buf mask kinds ids values) (omega (arith, p .write-answer buf mask kinds ids values .0));
+          let said = p .write-answer buf mask kinds ids values in
+          let k = write-kept buf mask kinds ids values (omega (arith, said .0)) in
+          (p .write-left buf mask kinds ids values ∙ k .0, said .1 ∙ k .1);
       world-kept = rehearse-world-kept c p;
       out-kept = rehearse-out-kept c p;
     }

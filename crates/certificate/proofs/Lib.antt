@@ -17,3 +17,4 @@ pub mod RuledOutWorld
 pub mod EndLine
 pub mod Demand2
 pub mod Demands
+pub mod Definitional

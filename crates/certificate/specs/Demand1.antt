@@ -17,7 +17,7 @@ use Rattle.rules.specs.Sheets.{stepsOf, badSheet}
 use Rattle.rules.specs.Sheets as sheets
 use Rattle.rules.specs.Runs.{longest, badOf}
 use Rattle.sheet.specs.declared.Sheet.{Sheet}
-use Rattle.sheet.specs.Writing.{unequal, numberOf}
+use Rattle.sheet.specs.Writing.{unequal, numberOf, sizeOf}
 use Rattle.world.specs.Answer.{reportOf}
 use Rattle.certificate.specs.Code.{Code, Promised}
 
@@ -63,9 +63,9 @@ pub record Numbered (answer : ℕ) (rows : Rows) : Type 0 where
   pub known : answer ≤ 9
   pub first : answer ≡ firstOf rows
 
--- "For BAD SHEET it prints `bad 9` only.": whole at the front of the record's buffer, or not at all
-abbrev pub badLaid : List ℕ → List ℕ
-badLaid out = if ltb (length out) (length badOf) then out else badOf ++ drop (length badOf) out
+-- "For BAD SHEET it prints `bad 9` only.": the one record of a refusal, whole at the front of the record's buffer, or not at all
+abbrev pub refusedRecord : ℕ → List ℕ → List ℕ
+refusedRecord answer out = if eqb answer BAD-SHEET then (if ltb (length out) (length badOf) then [] else badOf) else []
 
 -- the number of a check's answer
 abbrev pub checkNumber : Sheet → ℕ
@@ -80,11 +80,12 @@ pub record Demand1 (c : Code) : Type 0 where
   -- "All but 0 report event 0 with zero fields and change nothing."
   pub step-kept : (w : List ℕ) (k : Step) → 0 < c .step w k .number → (c .step-world w k ≡ w) × (reportOf (c .step w k .report) ≡ noReport)
   pub start-kept : (w : List ℕ) (mask : ℕ) → 0 < c .start w mask .number → (c .start-world w mask ≡ w) × (reportOf (c .start w mask .report) ≡ noReport)
-  pub write-kept : (buf : List ℕ) (mask : ℕ) (kinds ids values : List ℕ) → 0 < numberOf (c .write buf mask kinds ids values) → c .write-buf buf mask kinds ids values ≡ buf
+  pub write-kept : (buf : List ℕ) (mask : ℕ) (kinds ids values : List ℕ) → 0 < numberOf (c .write buf mask kinds ids values)
+      → (c .write-buf buf mask kinds ids values ≡ buf) × (sizeOf (c .write buf mask kinds ids values) ≡ 0)
   pub world-kept : (sheet world out : List ℕ) → 0 < c .rehearse sheet world out .answer → c .rehearse-world sheet world out ≡ world
-  -- the one record of a refusal is that of BAD SHEET
-  pub out-kept : (sheet world out : List ℕ) → 0 < c .rehearse sheet world out .answer
-      → c .rehearse-out sheet world out ≡ (if eqb (c .rehearse sheet world out .answer) BAD-SHEET then badLaid out else out)
+  -- and but for the record of a bad sheet, so does the record's buffer; its length is told
+  pub out-kept : (sheet world out : List ℕ) → 0 < c .rehearse sheet world out .answer → let l = refusedRecord (c .rehearse sheet world out .answer) out in
+      (c .rehearse-out sheet world out ≡ l ++ drop (length l) out) × (c .rehearse sheet world out .length ≡ length l)
 
 -- of every program that keeps the promises of the sources
 abbrev pub Demand1ForAll : Type 0

@@ -7,13 +7,13 @@ use Prim.Native.Nat.{ℕ, zero, suc, _+_, _*_, _≤_, _<_}
 use lib.ListN.{length, getD, take, drop}
 use Rattle.rules.specs.State.{start}
 use Rattle.rules.specs.declared.Step.{Step}
-use Rattle.rules.specs.Steps.{Outcome, after, report, stepped}
+use Rattle.rules.specs.Steps.{Outcome, noReport, after, report, stepped}
 use Rattle.rules.specs.Image.{image, worldAt, goodBytes}
 use Rattle.rules.specs.Sheets.{sheet, sheetIn}
-use Rattle.rules.specs.Runs.{outcomes, lastWorld, answer, fields, printed}
+use Rattle.rules.specs.Runs.{outcomes, lastWorld, answer, fields, printed, longest}
 use Rattle.sheet.specs.declared.Found.{Found}
 use Rattle.sheet.specs.declared.Found.the-variants.{At, End}
-use Rattle.sheet.specs.Writing.{kindsOf, idsOf, valuesOf, numberOf}
+use Rattle.sheet.specs.Writing.{kindsOf, idsOf, valuesOf, numberOf, sizeOf}
 use Rattle.world.specs.Answer.{columns, reportOf}
 use Rattle.certificate.specs.Code.{Code, Promised}
 
@@ -55,8 +55,9 @@ Below n l = (i : ℕ) → getD l i 0 < n
 -- ---- the demand
 
 pub record Demand2 (c : Code) : Type 0 where
-  -- an accepted start leaves the image of the rules' start
-  pub started : (w : List ℕ) (mask : ℕ) → c .start w mask .number ≡ 0 → (0 < mask) × (mask < 256) × (c .start-world w mask ≡ image (start mask))
+  -- a start is done in any buffer of the right length, and leaves the image of the rules' start
+  pub started : (w : List ℕ) (mask : ℕ) → length w ≡ 65536 → 0 < mask → mask < 256
+      → (c .start w mask .number ≡ 0) × (reportOf (c .start w mask .report) ≡ noReport) × (c .start-world w mask ≡ image (start mask))
   -- an accepted step was put to a good world; it leaves the image of what the rules make of that, and reports what they report
   pub accepted : (w : List ℕ) (k : Step) → c .step w k .number ≡ 0
       → (goodBytes w ≡ true) × (c .step-world w k ≡ image (after (worldAt w) (stepped (worldAt w) k))) × (reportOf (c .step w k .report) ≡ report (stepped (worldAt w) k))
@@ -64,23 +65,25 @@ pub record Demand2 (c : Code) : Type 0 where
   pub run : (w : List ℕ) → goodBytes w ≡ true → (ks : List Step)
       → (ranBy c w ks ≡ image (lastWorld (worldAt w) ks)) × (toldBy c w ks ≡ map outcomeLine (outcomes (worldAt w) ks))
   -- and from any start
-  pub run-started : (w : List ℕ) (mask : ℕ) → c .start w mask .number ≡ 0 → (ks : List Step)
+  pub run-started : (w : List ℕ) (mask : ℕ) → length w ≡ 65536 → 0 < mask → mask < 256 → (ks : List Step)
       → (ranBy c (c .start-world w mask) ks ≡ image (lastWorld (start mask) ks)) × (toldBy c (c .start-world w mask) ks ≡ map outcomeLine (outcomes (start mask) ks))
-  -- a sheet that is run leaves the image of its last world, and its record whole at the front of the record's buffer
-  pub rehearsed : (b world out : List ℕ) (mask : ℕ) (ks : List Step) → sheetIn b ≡ sheet mask ks → c .rehearse b world out .answer ≡ 0
-      → (c .rehearse b world out .length ≡ length (printed mask ks))
+  -- a sheet is run where there is room for its record: that leaves the image of its last world, and its record whole at the front of the record's buffer
+  pub rehearsed : (b world out : List ℕ) (mask : ℕ) (ks : List Step) → sheetIn b ≡ sheet mask ks → length world ≡ 65536 → longest (length ks) ≤ length out
+      → (c .rehearse b world out .answer ≡ 0)
+      × (c .rehearse b world out .length ≡ length (printed mask ks))
       × (c .rehearse-world b world out ≡ image (lastWorld (start mask) ks))
       × (c .rehearse-out b world out ≡ printed mask ks ++ drop (length (printed mask ks)) out)
   -- an accepted sheet, checked, read step by step and written again, gives the same bytes
   pub sheet-again : (b buf : List ℕ) → Below 256 b → c .check b .bad ≡ false → length b ≤ length buf
-      → let mask = c .check b .mask in let ks = readBy c b in
-      (numberOf (c .write buf mask (kindsOf ks) (idsOf ks) (valuesOf ks)) ≡ 0) × (c .write-buf buf mask (kindsOf ks) (idsOf ks) (valuesOf ks) ≡ b ++ drop (length b) buf)
+      → let ks = readBy c b in let r = c .write buf (c .check b .mask) (kindsOf ks) (idsOf ks) (valuesOf ks) in
+      (numberOf r ≡ 0) × (sizeOf r ≡ length b) × (c .write-buf buf (c .check b .mask) (kindsOf ks) (idsOf ks) (valuesOf ks) ≡ b ++ drop (length b) buf)
   -- up to 8,000 steps in slices, written and read, give the same slices
   pub sheet-back : (buf : List ℕ) (mask : ℕ) (kinds ids values : List ℕ) → 0 < mask → mask < 256
       → length ids ≡ length kinds → length values ≡ length kinds → length kinds ≤ 8000 → Below 256 kinds → Below 256 ids → Below 4294967296 values
       → 6 + 8 * length kinds ≤ length buf
       → let b = take (6 + 8 * length kinds) (c .write-buf buf mask kinds ids values) in
       (numberOf (c .write buf mask kinds ids values) ≡ 0)
+      × (sizeOf (c .write buf mask kinds ids values) ≡ 6 + 8 * length kinds)
       × (c .check b ≡ record { bad = false; mask = mask; steps = length kinds })
       × (kindsOf (readBy c b) ≡ kinds) × (idsOf (readBy c b) ≡ ids) × (valuesOf (readBy c b) ≡ values)
 

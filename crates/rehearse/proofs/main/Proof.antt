@@ -1,4 +1,5 @@
--- `rehearse::main` meets its contract. What it hands to standard output is the record of the sheet that it read, whole. Assumes nothing.
+-- `rehearse::main` meets its contract. The first bytes of its buffer, as many as the answer says, are the record of the sheet that it read
+-- (`handed`); that just these are written is read in the source. Assumes nothing.
 use mathlib.Core.Path.{_≡_, sym, ap, _∙_}
 use mathlib.Core.List.{List, _++_}
 use Prim.Native.Nat.{ℕ, _≤_}
