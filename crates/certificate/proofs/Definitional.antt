@@ -1,21 +1,19 @@
 -- Demands 1 and 2 speak of programs that keep the promises of the sources (`Promised`): there is one, the definitions themselves. So the two are not about nothing.
 -- Assumes nothing.
-use mathlib.Core.Path.{_≡_, refl, sym, ap, _∙_}
-use mathlib.Core.Bool.{Bool}
+use mathlib.Core.Path.{_≡_, refl}
 use mathlib.Core.List.{List}
 use Prim.Native.Nat.{ℕ, _+_, _-_}
 use lib.Dec.{eqb, leb, ltb}
 use lib.ListN.{length}
 use Rattle.views.proofs.Truth.{cases}
-use Rattle.rules.specs.Messages.{Message, Answer as RuleAnswer, refused, does, outgoing, Event, nothing, opened, readDone, writeDone}
-use Rattle.rules.specs.State.{Relay, Place, free, waiting, World, relayAt, deskAt, placeAt}
+use Rattle.rules.specs.Messages.{Answer as RuleAnswer, refused, does, outgoing, Event, nothing, opened, readDone, writeDone}
+use Rattle.rules.specs.State.{Relay, Place, free, waiting, World, placeAt}
 use Rattle.rules.specs.declared.Desk.{Desk}
 use Rattle.rules.specs.declared.Step.{Step}
-use Rattle.rules.specs.Sets.{_&&_, if_then_else_}
-use Rattle.rules.specs.Steps.{Act, join, leave, timer, read, write, deliver, drop, crash, bad, told, Outcome, refusal, done, report, reports, noReport, roomy, relayDoes, deskDoes, aliveIn, ifAlive, freed, delivers, delivery, dropping, crashing, acts, stepped}
-use Rattle.rules.specs.Steps as rules
+use Rattle.rules.specs.Sets.{_&&_}
+use Rattle.rules.specs.Steps.{Act, join, leave, timer, read, write, deliver, drop, crash, bad, told, Outcome, refusal, done, report, reports, roomy, relayDoes, deskDoes, aliveIn, ifAlive, freed, delivers, delivery, dropping, crashing, acts, stepped}
 use Rattle.rules.specs.Image.{worldAt, goodBytes}
-use Rattle.rules.specs.Lent.{Lent, kept, left, lentStep, lentStart}
+use Rattle.rules.specs.Lent.{Lent, left, lentStep, lentStart}
 use Rattle.rules.specs.Sheets.{Written as Ruling, bad-sheet, no-room, wrote}
 use Rattle.rules.specs.Sheets as sheets
 use Rattle.sheet.specs.declared.Written.{Written}

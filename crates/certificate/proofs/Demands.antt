@@ -21,7 +21,7 @@ use Rattle.rules.specs.Image.{image, worldAt, goodBytes}
 use Rattle.rules.specs.Lent.{Lent, kept, left, lentStep, lentStart}
 use Rattle.rules.specs.Sheets.{Written, wrote, written, Sheet, sheet, bad, badSheet, stepsOf, stepsIn, sheetIn, sheetBytes}
 use Rattle.rules.specs.Sheets as sheets
-use Rattle.rules.specs.Runs.{outcomes, lastWorld, answer, printed, longest, badOf}
+use Rattle.rules.specs.Runs.{outcomes, lastWorld, answer, printed, longest}
 use Rattle.rules.proofs.Refusals.{number-range, every-answer}
 use Rattle.rules.proofs.Order.{first-applies}
 use Rattle.rules.proofs.Starts.{start-good}
