@@ -1,4 +1,5 @@
--- Demands 1 and 2 speak of programs that keep the promises of the sources (`Promised`): there is one, the definitions themselves. So the two are not about nothing.
+-- Demands 1 and 2 speak of programs that keep the promises of the sources (`Promised`): there is one, the definitions themselves. So the two are not about
+-- nothing.
 -- Assumes nothing.
 use mathlib.Core.Path.{_≡_, refl}
 use mathlib.Core.List.{List}
@@ -51,7 +52,8 @@ relay-made : (w : World) (n s : ℕ) (a : RuleAnswer Relay) → Reports (relayDo
 unfolding relayDoes
 relay-made w n s (refused x) = record { is = made nothing 0 }
 relay-made w n s (does r ss e) =
-    cases Reports (roomy w (outgoing s ss) && (leb (length (r .generators)) 8 && leb (length (r .transfers)) 8)) (λ _. record { is = made e s }) (λ _. record { is = made nothing 0 })
+    cases Reports (roomy w (outgoing s ss) && (leb (length (r .generators)) 8 && leb (length (r .transfers)) 8)) (λ _. record { is = made e s })
+    (λ _. record { is = made nothing 0 })
 
 desk-made : (w : World) (n d : ℕ) (a : RuleAnswer Desk) → Reports (deskDoes w n d a)
 unfolding deskDoes
@@ -114,7 +116,8 @@ start-sayable : (w : List ℕ) (mask : ℕ) → Sayable (lentStart w mask)
 unfolding lentStart
 start-sayable w mask =
     cases Sayable (eqb (length w) 65536)
-    (λ _. cases Sayable (eqb mask 0) (λ _. sayable _ (made nothing 0)) (λ _. cases Sayable (leb 256 mask) (λ _. sayable _ (made nothing 0)) (λ _. sayable _ (made nothing 0))))
+    (λ _. cases Sayable (eqb mask 0) (λ _. sayable _ (made nothing 0))
+    (λ _. cases Sayable (leb 256 mask) (λ _. sayable _ (made nothing 0)) (λ _. sayable _ (made nothing 0))))
     (λ _. sayable _ (made nothing 0))
 
 -- a ruling on a sheet of n bytes as the code's answer

@@ -229,7 +229,9 @@ module _ (c : Code) (d : Demand2 c) where
 
   pub demand2-one-constant-reply : (a : Answer) → ¬ ((w : List ℕ) (k : Step) → goodBytes w ≡ true → c .step w k ≡ a)
   demand2-one-constant-reply a p =
-      let same : c .step one write .number ≡ c .step one deliver .number = ap (λ (x : Answer). x .number) (p one write one-good ∙ sym (p one deliver one-good)) in
+      let same : c .step one write .number ≡ c .step one deliver .number =
+      ap (λ (x : Answer). x .number) (p one write one-good ∙ sym (p one deliver one-good))
+      in
       omega (arith, same, one-done, one-empty)
 
   pub demand2-no-work-at-all : ¬ ((w : List ℕ) (k : Step) → goodBytes w ≡ true → c .step-world w k ≡ w)

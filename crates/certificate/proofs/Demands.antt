@@ -91,17 +91,20 @@ module _ (w : List ℕ) where
     unfolding lentStep
     step-accepted = go (goodBytes w) refl
       where
-        go : (b : Bool) → goodBytes w ≡ b → stepLeft b .answer ≡ 0 → (goodBytes w ≡ true) × (stepLeft b .buffer ≡ image (after (worldAt w) o)) × (stepLeft b .report ≡ report o)
+        go : (b : Bool) → goodBytes w ≡ b → stepLeft b .answer ≡ 0
+            → (goodBytes w ≡ true) × (stepLeft b .buffer ≡ image (after (worldAt w) o)) × (stepLeft b .report ≡ report o)
         go true e h = let d = left-done (worldAt w) o h in (e, d .0, d .1)
         go false e h = absurd (omega (arith, h))
 
 -- ---- a start in any buffer
 
 module _ (w : List ℕ) (mask : ℕ) where
+  abbrev begun : Lent
+  begun = record { answer = 0; report = noReport; buffer = image (start mask) }
+
   -- by its length, and by the mask: 0, above 255
   abbrev startLeft : Bool → Bool → Bool → Lent
-  startLeft long none big =
-      if long then (if none then kept bad-step w else if big then kept bad-step w else record { answer = 0; report = noReport; buffer = image (start mask) }) else kept refusals.bad-world w
+  startLeft long none big = if long then (if none then kept bad-step w else if big then kept bad-step w else begun) else kept refusals.bad-world w
 
   start-said : Said w (startRows w mask) (lentStart w mask)
   unfolding lentStart
@@ -113,7 +116,7 @@ module _ (w : List ℕ) (mask : ℕ) where
       go true false false = record { first = refl; known = lit≤ tt; refused = λ h. absurd (omega arith) }
       go false b c = record { first = refl; known = lit≤ tt; refused = λ h. (refl, refl) }
 
-  start-accepted : length w ≡ 65536 → 0 < mask → mask < 256 → lentStart w mask ≡ record { answer = 0; report = noReport; buffer = image (start mask) }
+  start-accepted : length w ≡ 65536 → 0 < mask → mask < 256 → lentStart w mask ≡ begun
   unfolding lentStart
   start-accepted long some small = rw (eq-eqb (length w) 65536 long, ne-eqb mask 0 (λ z. omega arith), lt-leb 256 mask small)
 
@@ -157,20 +160,24 @@ module _ (buf : List ℕ) (mask : ℕ) (kinds ids values : List ℕ) where
       go : (x y : Bool) → unequal kinds ids values || eqb mask 0 || ltb 8000 (length kinds) ≡ x → ltb (length buf) (6 + 8 * length kinds) ≡ y
           → Numbered (sheets.number (ruled buf mask kinds ids values)) ((x, BAD-SHEET) ∷ (y, number refusals.no-room) ∷ [])
       go true y e f = rw (writing.bad buf mask kinds ids values e) (record { known = lit≤ tt; first = refl })
-      go false true e f = rw (writing.roomless buf mask kinds ids values e (omega (arith, ltb-true (length buf) (6 + 8 * length kinds) f))) (record { known = lit≤ tt; first = refl })
-      go false false e f = rw (← writing.done buf mask kinds ids values e (omega (arith, ltb-false (length buf) (6 + 8 * length kinds) f)) .0) (record { known = lit≤ tt; first = refl })
+      go false true e f = rw (writing.roomless buf mask kinds ids values e (omega (arith, ltb-true (length buf) (6 + 8 * length kinds) f)))
+          (record { known = lit≤ tt; first = refl })
+      go false false e f = rw (← writing.done buf mask kinds ids values e (omega (arith, ltb-false (length buf) (6 + 8 * length kinds) f)) .0)
+          (record { known = lit≤ tt; first = refl })
 
   ruling-kept : (n : ℕ) (x : Written) → 0 < sheets.number x → (bufferOf buf x ≡ buf) × (sizeIn n x ≡ 0)
   ruling-kept n sheets.bad-sheet h = (refl, refl)
   ruling-kept n sheets.no-room h = (refl, refl)
   ruling-kept n (wrote l) h = absurd (omega arith)
 
-  write-kept : 0 < sheets.number (ruled buf mask kinds ids values) → (bufferOf buf (ruled buf mask kinds ids values) ≡ buf) × (ruledSize buf mask kinds ids values ≡ 0)
+  write-kept : 0 < sheets.number (ruled buf mask kinds ids values)
+      → (bufferOf buf (ruled buf mask kinds ids values) ≡ buf) × (ruledSize buf mask kinds ids values ≡ 0)
   unfolding ruledSize
   write-kept h = ruling-kept _ (ruled buf mask kinds ids values) h
 
   -- how many bytes a sheet that is written has
-  wrote-size : (l : List ℕ) → ruled buf mask kinds ids values ≡ wrote l → ruledSize buf mask kinds ids values ≡ length (sheetBytes mask (listed kinds ids values))
+  wrote-size : (l : List ℕ) → ruled buf mask kinds ids values ≡ wrote l
+      → ruledSize buf mask kinds ids values ≡ length (sheetBytes mask (listed kinds ids values))
   unfolding ruledSize
   wrote-size l e = rw e
 
@@ -205,7 +212,8 @@ module _ (b w out : List ℕ) where
   unfolding decided
   rehearse-first = go (eqb (length w) 65536) (sheetIn b) refl
     where
-      room : (mask : ℕ) (ks : List Step) (n : ℕ) → n ≡ length ks → numberBy (roomFor (length out) (sheet mask ks)) ≡ firstOf ((ltb (length out) (longest n), number refusals.no-room) ∷ [])
+      room : (mask : ℕ) (ks : List Step) (n : ℕ) → n ≡ length ks
+          → numberBy (roomFor (length out) (sheet mask ks)) ≡ firstOf ((ltb (length out) (longest n), number refusals.no-room) ∷ [])
       room mask ks n e = rw e (pick (ltb (length out) (longest (length ks))))
         where
           pick : (x : Bool) → numberBy (if x then no-room else runs mask ks) ≡ firstOf ((x, number refusals.no-room) ∷ [])
@@ -213,7 +221,8 @@ module _ (b w out : List ℕ) where
           pick false = refl
 
       go : (x : Bool) (s : Sheet) → sheetIn b ≡ s
-          → numberBy (decidedBy x s) ≡ firstOf ((not x, number refusals.bad-world) ∷ (badSheet b, BAD-SHEET) ∷ (ltb (length out) (longest (stepsOf b)), number refusals.no-room) ∷ [])
+          → numberBy (decidedBy x s) ≡ firstOf
+          ((not x, number refusals.bad-world) ∷ (badSheet b, BAD-SHEET) ∷ (ltb (length out) (longest (stepsOf b)), number refusals.no-room) ∷ [])
       go true bad e = rw (sheet-bad b e)
       go true (sheet mask ks) e = let a = accepted b mask ks e in rw (a .good) (room mask ks (stepsOf b) (count b mask ks a))
       go false s e = refl
@@ -283,7 +292,8 @@ module _ (c : Code) (p : Promised c) where
     run-started ks = subst (λ (x : List ℕ). Follows x (start mask) ks) (sym (started .2)) (run-of (start mask) (start-good mask some small) ks)
 
   taken : (w : List ℕ) (k : Step) → c .step w k .number ≡ 0
-      → (goodBytes w ≡ true) × (c .step-world w k ≡ image (after (worldAt w) (stepped (worldAt w) k))) × (reportOf (c .step w k .report) ≡ report (stepped (worldAt w) k))
+      → (goodBytes w ≡ true) × (c .step-world w k ≡ image (after (worldAt w) (stepped (worldAt w) k)))
+      × (reportOf (c .step w k .report) ≡ report (stepped (worldAt w) k))
   taken w k h =
       let e = p .step-kept w k in
       let a = step-accepted w k (sym (says-number _ _ _ e) ∙ h) in
@@ -311,7 +321,9 @@ module _ (c : Code) (p : Promised c) where
           (c .rehearse-out b world out ≡ l ++ drop (length l) out) × (c .rehearse b world out .length ≡ length l)
       unfolding recordLeft laidBy rehearseAnswer answerBy
       rehearse-out-kept =
-          let l : recordBy (length out) (decided b world out) ≡ refusedRecord (c .rehearse b world out .answer) out = rw rehearse-number (ruling-record world out (decided b world out) refused) in (
+          let l : recordBy (length out) (decided b world out) ≡ refusedRecord (c .rehearse b world out .answer) out =
+          rw rehearse-number (ruling-record world out (decided b world out) refused)
+          in (
             p .rehearse-printed b world out ∙ ap (λ (x : List ℕ). x ++ drop (length x) out) l,
             ap (λ (r : Rehearsed). r .length) (p .rehearse-answer b world out) ∙ ap length l,
           )
@@ -345,7 +357,8 @@ module _ (c : Code) (p : Promised c) where
       past : ℕ
       past = c .read-at b at .at
 
-      go : (f : Found) → c .read-at b at .found ≡ f → (length (stepsFrom b past) ≤ n → readFrom c n b past ≡ stepsFrom b past) → before f (readFrom c n b past) ≡ stepsFrom b at
+      go : (f : Found) → c .read-at b at .found ≡ f → (length (stepsFrom b past) ≤ n → readFrom c n b past ≡ stepsFrom b past)
+          → before f (readFrom c n b past) ≡ stepsFrom b at
       go (At k) e more =
           let s = taken-step b at (c .read-at b at) (p .read-at-kept b at) k e in
           ap (λ (l : List Step). k ∷ l) (more (omega (arith, ap length s))) ∙ sym s
@@ -368,9 +381,12 @@ module _ (c : Code) (p : Promised c) where
       let mask-is : mask ≡ getD b 5 0 = ap (λ (s : checked.Sheet). s .mask) e ∙ a .0 in
       let ks-is : ks ≡ stepsFrom b 6 = read-sheet b (getD b 5 0) (stepsFrom b 6) (a .1) in
       let is : sheetIn b ≡ sheet mask ks = rw (mask-is, ks-is) (a .1) in
-      let wrote-is : ruled buf mask (kindsOf ks) (idsOf ks) (valuesOf ks) ≡ wrote (b ++ drop (length b) buf) = ruled-list buf mask ks ∙ again b buf mask ks each is fits in
+      let wrote-is : ruled buf mask (kindsOf ks) (idsOf ks) (valuesOf ks) ≡ wrote (b ++ drop (length b) buf) =
+      ruled-list buf mask ks ∙ again b buf mask ks each is fits
+      in
       let size : ruledSize buf mask (kindsOf ks) (idsOf ks) (valuesOf ks) ≡ length b =
-      wrote-size buf mask (kindsOf ks) (idsOf ks) (valuesOf ks) _ wrote-is ∙ ap (λ (l : List Step). length (sheetBytes mask l)) (listed-back ks) ∙ ap length (same-bytes b buf mask ks each is)
+      wrote-size buf mask (kindsOf ks) (idsOf ks) (valuesOf ks) _ wrote-is ∙ ap (λ (l : List Step). length (sheetBytes mask l)) (listed-back ks)
+      ∙ ap length (same-bytes b buf mask ks each is)
       in
       let said = p .write-answer buf mask (kindsOf ks) (idsOf ks) (valuesOf ks) in
       (said .0 ∙ ap sheets.number wrote-is, said .1 ∙ size, p .write-left buf mask (kindsOf ks) (idsOf ks) (valuesOf ks) ∙ ap (bufferOf buf) wrote-is)
@@ -399,7 +415,9 @@ module _ (c : Code) (p : Promised c) where
 
     sent-is : sheetIn sent ≡ sheet mask steps
     sent-is =
-        let left : c .write-buf buf mask kinds ids values ≡ bufferOf buf (written buf mask steps) = p .write-left buf mask kinds ids values ∙ ap (bufferOf buf) ruled-is in
+        let left : c .write-buf buf mask kinds ids values ≡ bufferOf buf (written buf mask steps) =
+        p .write-left buf mask kinds ids values ∙ ap (bufferOf buf) ruled-is
+        in
         ap (λ (l : List ℕ). sheetIn (take (6 + 8 * length kinds) l)) left
         ∙ ap (λ (n : ℕ). sheetIn (take (6 + 8 * n) (bufferOf buf (written buf mask steps)))) (sym long)
         ∙ back buf mask steps some (omega (arith, long)) (smalls kinds ids values hk hi hv) (omega (arith, long))
@@ -420,8 +438,14 @@ module _ (c : Code) (p : Promised c) where
         let said = p .write-answer buf mask kinds ids values in
         let size : ruledSize buf mask kinds ids values ≡ 6 + 8 * length kinds =
         wrote-size buf mask kinds ids values _ (ruled-is ∙ wrote-is) ∙ writing.size buf mask steps ∙ ap (λ (n : ℕ). 6 + 8 * n) long
-        in
-        (said .0 ∙ ap sheets.number (ruled-is ∙ wrote-is), said .1 ∙ size, check-is, ap kindsOf read ∙ s .kinds-are, ap idsOf read ∙ s .ids-are, ap valuesOf read ∙ s .values-are)
+        in (
+          said .0 ∙ ap sheets.number (ruled-is ∙ wrote-is),
+          said .1 ∙ size,
+          check-is,
+          ap kindsOf read ∙ s .kinds-are,
+          ap idsOf read ∙ s .ids-are,
+          ap valuesOf read ∙ s .values-are,
+        )
 
 -- ---- the theorems
 

@@ -1,5 +1,6 @@
 -- The public functions on which demands 1 and 2 are stated: a program is what they answer and leave in the lent buffers, for whatever they are handed.
--- `Promised` is what their sources promise, word for word (checks/total compares them). What a slice cannot hold, the code is never handed: docs/DECISIONS.md, 46.
+-- `Promised` is what their sources promise, word for word (checks/total compares them). What a slice cannot hold, the code is never handed:
+-- docs/DECISIONS.md, 46.
 -- Assumes nothing.
 use mathlib.Core.Path.{_≡_}
 use mathlib.Core.List.{List}
@@ -42,7 +43,8 @@ pub record Promised (c : Code) : Type 0 where
   pub write-answer : (buf : List ℕ) (mask : ℕ) (kinds ids values : List ℕ)
       → (numberOf (c .write buf mask kinds ids values) ≡ number (ruled buf mask kinds ids values))
       × (sizeOf (c .write buf mask kinds ids values) ≡ ruledSize buf mask kinds ids values)
-  pub write-left : (buf : List ℕ) (mask : ℕ) (kinds ids values : List ℕ) → c .write-buf buf mask kinds ids values ≡ bufferOf buf (ruled buf mask kinds ids values)
+  pub write-left : (buf : List ℕ) (mask : ℕ) (kinds ids values : List ℕ)
+      → c .write-buf buf mask kinds ids values ≡ bufferOf buf (ruled buf mask kinds ids values)
   pub rehearse-answer : (sheet world out : List ℕ) → c .rehearse sheet world out ≡ rehearseAnswer sheet world out
   pub rehearse-last : (sheet world out : List ℕ) → c .rehearse-world sheet world out ≡ worldLeft sheet world out
   pub rehearse-printed : (sheet world out : List ℕ) → c .rehearse-out sheet world out ≡ recordLeft sheet world out

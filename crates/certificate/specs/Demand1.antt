@@ -75,7 +75,8 @@ pub record Demand1 (c : Code) : Type 0 where
   pub step : (w : List ℕ) (k : Step) → Numbered (c .step w k .number) (stepRows w k)
   pub start : (w : List ℕ) (mask : ℕ) → Numbered (c .start w mask .number) (startRows w mask)
   pub check : (b : List ℕ) → Numbered (checkNumber (c .check b)) (checkRows b)
-  pub write : (buf : List ℕ) (mask : ℕ) (kinds ids values : List ℕ) → Numbered (numberOf (c .write buf mask kinds ids values)) (writeRows buf mask kinds ids values)
+  pub write : (buf : List ℕ) (mask : ℕ) (kinds ids values : List ℕ)
+      → Numbered (numberOf (c .write buf mask kinds ids values)) (writeRows buf mask kinds ids values)
   pub rehearse : (sheet world out : List ℕ) → Numbered (c .rehearse sheet world out .answer) (rehearseRows sheet world out)
   -- "All but 0 report event 0 with zero fields and change nothing."
   pub step-kept : (w : List ℕ) (k : Step) → 0 < c .step w k .number → (c .step-world w k ≡ w) × (reportOf (c .step w k .report) ≡ noReport)

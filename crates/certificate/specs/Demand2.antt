@@ -60,13 +60,15 @@ pub record Demand2 (c : Code) : Type 0 where
       → (c .start w mask .number ≡ 0) × (reportOf (c .start w mask .report) ≡ noReport) × (c .start-world w mask ≡ image (start mask))
   -- an accepted step was put to a good world; it leaves the image of what the rules make of that, and reports what they report
   pub accepted : (w : List ℕ) (k : Step) → c .step w k .number ≡ 0
-      → (goodBytes w ≡ true) × (c .step-world w k ≡ image (after (worldAt w) (stepped (worldAt w) k))) × (reportOf (c .step w k .report) ≡ report (stepped (worldAt w) k))
+      → (goodBytes w ≡ true) × (c .step-world w k ≡ image (after (worldAt w) (stepped (worldAt w) k)))
+      × (reportOf (c .step w k .report) ≡ report (stepped (worldAt w) k))
   -- and so through any run, refused steps in it or not, from any good world
   pub run : (w : List ℕ) → goodBytes w ≡ true → (ks : List Step)
       → (ranBy c w ks ≡ image (lastWorld (worldAt w) ks)) × (toldBy c w ks ≡ map outcomeLine (outcomes (worldAt w) ks))
   -- and from any start
   pub run-started : (w : List ℕ) (mask : ℕ) → length w ≡ 65536 → 0 < mask → mask < 256 → (ks : List Step)
-      → (ranBy c (c .start-world w mask) ks ≡ image (lastWorld (start mask) ks)) × (toldBy c (c .start-world w mask) ks ≡ map outcomeLine (outcomes (start mask) ks))
+      → (ranBy c (c .start-world w mask) ks ≡ image (lastWorld (start mask) ks))
+      × (toldBy c (c .start-world w mask) ks ≡ map outcomeLine (outcomes (start mask) ks))
   -- a sheet is run where there is room for its record: that leaves the image of its last world, and its record whole at the front of the record's buffer
   pub rehearsed : (b world out : List ℕ) (mask : ℕ) (ks : List Step) → sheetIn b ≡ sheet mask ks → length world ≡ 65536 → longest (length ks) ≤ length out
       → (c .rehearse b world out .answer ≡ 0)

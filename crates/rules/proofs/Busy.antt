@@ -51,8 +51,10 @@ counted-goes n d busy = cases Goes (reaches (d .view) (d .replied)) (λ _. compl
 
 hears-goes : (n : ℕ) (d : Desk) (from : ℕ) (b : Body) → Busy d → Goes (deskHears n d from b)
 unfolding deskHears viewCame pairCame ackCame notesPair notesAck
-hears-goes n d from (viewReply try v) busy = cases Goes (current d from try && inside (d .view) v) (λ _. begins-goes d (d .phase) v (d .holds) busy) (λ _. inl busy)
-hears-goes n d from (pairReply try p) busy = cases Goes (current d from try && isFirst (d .phase)) (λ _. counted-goes n (notesPair d from p) busy) (λ _. inl busy)
+hears-goes n d from (viewReply try v) busy = cases Goes (current d from try && inside (d .view) v) (λ _. begins-goes d (d .phase) v (d .holds) busy)
+    (λ _. inl busy)
+hears-goes n d from (pairReply try p) busy = cases Goes (current d from try && isFirst (d .phase)) (λ _. counted-goes n (notesPair d from p) busy)
+    (λ _. inl busy)
 hears-goes n d from (ack try) busy = cases Goes (current d from try && isSecond (d .phase)) (λ _. counted-goes n (notesAck d from) busy) (λ _. inl busy)
 hears-goes n d from (request u c) busy = inl busy
 hears-goes n d from (view v) busy = inl busy
@@ -111,7 +113,8 @@ module _ (w : World) (n : ℕ) (busy : Busy (deskAt w n)) where
   relay-goes f c s (refused x) same = busy-still busy
   relay-goes f c s (does r ss e) same =
       let kept : Busy (getD (f .desks) n noDesk) = rw same busy in
-      cases (GoesOn w n) (roomy f (outgoing s ss) && (leb (length (r .generators)) 8 && leb (length (r .transfers)) 8)) (λ _. busy-still kept) (λ _. busy-still busy)
+      cases (GoesOn w n) (roomy f (outgoing s ss) && (leb (length (r .generators)) 8 && leb (length (r .transfers)) 8)) (λ _. busy-still kept)
+      (λ _. busy-still busy)
 
   alive-goes : (who : ℕ) (o : Outcome) → GoesOn w n o → GoesOn w n (ifAlive w who o)
   unfolding ifAlive

@@ -1,4 +1,5 @@
--- "Checked in this order, the first that applies": the table of answers (specs/Table) as one equation, over any well-formed world and any step. Assumes nothing.
+-- "Checked in this order, the first that applies": the table of answers (specs/Table) as one equation, over any well-formed world and any step. Assumes
+-- nothing.
 use mathlib.Core.Path.{_≡_, refl, ap, _∙_}
 use mathlib.Core.Bool.{Bool, true, false, not}
 use mathlib.Core.List.{List, [], _∷_}
@@ -165,7 +166,8 @@ desk-own n d from (put try c p) = deed
 
 -- ---- the answer is the table's
 
-alive-row : (w : World) (who : ℕ) (o : Outcome) (rows : List (Bool × ℕ)) → answer o ≡ firstOf rows → answer (ifAlive w who o) ≡ firstOf ((isDead w who, number dead) ∷ rows)
+alive-row : (w : World) (who : ℕ) (o : Outcome) (rows : List (Bool × ℕ)) → answer o ≡ firstOf rows
+    → answer (ifAlive w who o) ≡ firstOf ((isDead w who, number dead) ∷ rows)
 unfolding ifAlive
 alive-row w who o rows e = go (aliveIn w who)
   where
@@ -185,9 +187,11 @@ module _ (f : World) (n : ℕ) where
   relay-rows s g t (refused not-yet) yet fits = refl
   relay-rows s g t (refused worn) wear fits = refl
   relay-rows s g t (does r ss e) deed fits =
-      rw (← fits .0, ← fits .1) (room-row (leb (length (outgoing s ss)) (freeIn (f .places)) && (leb (length (r .generators)) 8 && leb (length (r .transfers)) 8)) _ refl)
+      rw (← fits .0, ← fits .1) (room-row
+      (leb (length (outgoing s ss)) (freeIn (f .places)) && (leb (length (r .generators)) 8 && leb (length (r .transfers)) 8)) _ refl)
 
-  desk-rows : (d : ℕ) {x y z : Bool} (a : Answer Desk) → Own Desk x y z a → answer (deskDoes f n d a) ≡ firstOf ((x, number not-now) ∷ (y, number not-yet) ∷ (z, number worn) ∷ (not (deskRoom f d a), number no-room) ∷ [])
+  desk-rows : (d : ℕ) {x y z : Bool} (a : Answer Desk) → Own Desk x y z a
+      → answer (deskDoes f n d a) ≡ firstOf ((x, number not-now) ∷ (y, number not-yet) ∷ (z, number worn) ∷ (not (deskRoom f d a), number no-room) ∷ [])
   unfolding deskDoes roomy
   desk-rows d (refused not-now) now = refl
   desk-rows d (refused not-yet) yet = refl
@@ -199,7 +203,8 @@ abbrev rest : World → Act → List (Bool × ℕ)
 rest w a = (notNow w a, number not-now) ∷ (notYet w a, number not-yet) ∷ (wornOut w a, number worn) ∷ (not (room (ruling w a)), number no-room) ∷ []
 
 delivers-rows : (w : World) (p : ℕ) (m : Message) → Few (relayAt w (m .to)) → answer (delivers (freed w p) m)
-    ≡ firstOf ((messageWaits w (waiting m), number not-yet) ∷ (messageWears w (waiting m), number worn) ∷ (not (room (heardBy (freed w p) m)), number no-room) ∷ [])
+    ≡ firstOf ((messageWaits w (waiting m), number not-yet) ∷ (messageWears w (waiting m), number worn)
+    ∷ (not (room (heardBy (freed w p) m)), number no-room) ∷ [])
 unfolding delivers freed
 delivers-rows w p m few = go (ltb (m .to) 8)
   where
@@ -225,11 +230,13 @@ delivers-rows w p m few = go (ltb (m .to) 8)
     go false = desk-rows f 1 (m .to - 8) d (desk-own (m .to - 8) _ (m .from) (m .body))
 
 delivery-rows : (w : World) → ((s : ℕ) → Few (relayAt w s)) → (p : ℕ) (x : Place) → answer (delivery w p x)
-    ≡ firstOf ((isFree x, number empty) ∷ (receiverDead w x, number dead) ∷ (messageWaits w x, number not-yet) ∷ (messageWears w x, number worn) ∷ (not (room (delivered w p x)), number no-room) ∷ [])
+    ≡ firstOf ((isFree x, number empty) ∷ (receiverDead w x, number dead) ∷ (messageWaits w x, number not-yet)
+    ∷ (messageWears w x, number worn) ∷ (not (room (delivered w p x)), number no-room) ∷ [])
 unfolding delivery
 delivery-rows w few p free = refl
 delivery-rows w few p (waiting m) =
-    alive-row w (m .to) _ ((messageWaits w (waiting m), number not-yet) ∷ (messageWears w (waiting m), number worn) ∷ (not (room (heardBy (freed w p) m)), number no-room) ∷ []) (delivers-rows w p m (few (m .to)))
+    alive-row w (m .to) _ ((messageWaits w (waiting m), number not-yet) ∷ (messageWears w (waiting m), number worn)
+    ∷ (not (room (heardBy (freed w p) m)), number no-room) ∷ []) (delivers-rows w p m (few (m .to)))
 
 dropping-row : (w : World) (p : ℕ) (x : Place) → answer (dropping w p x) ≡ firstOf ((isFree x, number empty) ∷ [])
 unfolding dropping
@@ -255,7 +262,8 @@ acts-rows : (w : World) → ((s : ℕ) → Few (relayAt w s)) → (a : Act) → 
 unfolding acts
 acts-rows w few (join s) = alive-row w s _ (rest w (join s)) (relay-rows w 0 s false false _ (join-own s (relayAt w s)) (join-fits (relayAt w s) (few s) s))
 acts-rows w few (leave s) = alive-row w s _ (rest w (leave s)) (relay-rows w 0 s false false _ (leave-own s (relayAt w s)) (leave-fits (relayAt w s) (few s) s))
-acts-rows w few (timer s) = alive-row w s _ (rest w (timer s)) (relay-rows w 0 s (lacksGenerator (relayAt w s) (relayAt w s .view)) false _ (timer-own (relayAt w s)) (timer-fits (relayAt w s) (few s)))
+acts-rows w few (timer s) = alive-row w s _ (rest w (timer s))
+    (relay-rows w 0 s (lacksGenerator (relayAt w s) (relayAt w s .view)) false _ (timer-own (relayAt w s)) (timer-fits (relayAt w s) (few s)))
 acts-rows w few (read n) = alive-row w (8 + n) _ (rest w (read n)) (desk-rows w 0 n _ (read-own (deskAt w n)))
 acts-rows w few (write n x) = alive-row w (8 + n) _ (rest w (write n x)) (desk-rows w 0 n _ (write-own (deskAt w n) x))
 acts-rows w few (deliver p) = delivery-rows w few p (placeAt w p)

@@ -1,4 +1,5 @@
--- What a rule leaves of a relay's generators and transfers fits into eight places of each exactly where as many as it takes were free at its begin (specs/Table):
+-- What a rule leaves of a relay's generators and transfers fits into eight places of each exactly where as many as it takes were free at its begin
+-- (specs/Table):
 -- a transfer just taken never passes the entry test (Rooms), so no rule both takes and frees. Assumes nothing.
 use mathlib.Core.Path.{_≡_, refl, sym, ap, subst, _∙_}
 use mathlib.Core.Bool.{Bool, true, false, not}
@@ -113,7 +114,8 @@ module _ (r : Relay) (few : Few r) where
   module _ (t : Transfer) (o w : ℕ) (old : t .old ≡ o) (new : t .new ≡ w) (waits : lacksTransfer r o w ≡ true → passes t ≡ false) where
     kept-long : length (putTransfer t (r .transfers)) ≡ length (r .transfers) + oneIf (lacksTransfer r o w)
     kept-long =
-        transfers-long t (r .transfers) ∙ ap (λ (x : ℕ). length (r .transfers) + oneIf (lacksTransfer r x (t .new))) old ∙ ap (λ (x : ℕ). length (r .transfers) + oneIf (lacksTransfer r o x)) new
+        transfers-long t (r .transfers) ∙ ap (λ (x : ℕ). length (r .transfers) + oneIf (lacksTransfer r x (t .new))) old
+        ∙ ap (λ (x : ℕ). length (r .transfers) + oneIf (lacksTransfer r o x)) new
 
     abbrev kept : Relay
     kept = withTransfers r (putTransfer t (r .transfers))
@@ -133,19 +135,26 @@ module _ (r : Relay) (few : Few r) where
     enters-fits p = go (none (onward t))
       where
         go : (b : Bool) → Fits r (not b && lacksGenerator r w) (lacksTransfer r o w)
-            (if b then does (moved kept t true) [] (opened (t .new)) else atGenerator (moved kept t false) (proposes (generatorFor (t .new) (r .generators)) (onward t)))
+            (if b then does (moved kept t true) [] (opened (t .new)) else atGenerator (moved kept t false)
+            (proposes (generatorFor (t .new) (r .generators)) (onward t)))
         go true = (as-was .0, freed-fits p)
-        go false = (put-fits _ w (proposes-leaves (generatorFor (t .new) (r .generators)) (onward t) .for ∙ view-of (t .new) (r .generators) ∙ new), freed-fits p)
+        go false = (
+          put-fits _ w (proposes-leaves (generatorFor (t .new) (r .generators)) (onward t) .for
+              ∙ view-of (t .new) (r .generators) ∙ new),
+          freed-fits p,
+        )
 
     tested-fits : Fits r (proposesOn t && lacksGenerator r w) (lacksTransfer r o w) (tested r t)
     unfolding tested withTransfers
     tested-fits = go (passes t) refl
       where
-        go : (b : Bool) → passes t ≡ b → Fits r ((b && not (none (onward t))) && lacksGenerator r w) (lacksTransfer r o w) (if b then enters kept t else quietly kept)
+        go : (b : Bool) → passes t ≡ b → Fits r ((b && not (none (onward t))) && lacksGenerator r w) (lacksTransfer r o w)
+            (if b then enters kept t else quietly kept)
         go true p = enters-fits p
         go false p = (as-was .0, fits-one _ _ (lacksTransfer r o w) (few .transfers) kept-long)
 
-  state-fits : (s from o w : ℕ) (p : Pair) (u : ℕ) → Fits r (takesGenerator s r from (state o w p u)) (takesTransfer s r (state o w p u)) (stateHeard r from o w p u)
+  state-fits : (s from o w : ℕ) (p : Pair) (u : ℕ)
+      → Fits r (takesGenerator s r from (state o w p u)) (takesTransfer s r (state o w p u)) (stateHeard r from o w p u)
   unfolding stateHeard gathers
   state-fits s from o w p u = go (inside (r .view) w)
     where
@@ -186,7 +195,8 @@ module _ (r : Relay) (few : Few r) where
       cases (Fits r g t) (early s r o) (λ _. tt)
       (λ _. first-fits r g t (handed s r o w) (takesInstall s (stopped s r o w) o w q)
       (cases (λ (x : Relay). Fits r g t (takesInstall s x o w q)) (member o s && inside (r .view) w) {x = withActive r false} {y = r}
-      (λ _. stopped-fits r g t (takesInstall s (withActive r false) o w q) (takes-fits (withActive r false) (record { generators = few .generators; transfers = few .transfers }) s o w q))
+      (λ _. stopped-fits r g t (takesInstall s (withActive r false) o w q)
+      (takes-fits (withActive r false) (record { generators = few .generators; transfers = few .transfers }) s o w q))
       (λ _. takes-fits r few s o w q)))
     where
       g : Bool
@@ -203,8 +213,10 @@ module _ (r : Relay) (few : Few r) where
   hears-fits s from (converged v q) = turn-fits r few _ v (converged-leaves (generatorFor v (r .generators)) from q .for ∙ view-of v (r .generators))
   hears-fits s from (install o w q) = install-fits s from o w q
   hears-fits s from (state o w p u) = state-fits r few s from o w p u
-  hears-fits s from (get try c) = cases (Fits r false false) (not (serves r c)) (λ _. tt) (λ _. cases (Fits r false false) (inside c (r .view)) (λ _. as-was r few) (λ _. as-was r few))
-  hears-fits s from (put try c p) = cases (Fits r false false) (not (serves r c)) (λ _. tt) (λ _. cases (Fits r false false) (inside c (r .view)) (λ _. as-was r few) (λ _. as-was r few))
+  hears-fits s from (get try c) = cases (Fits r false false) (not (serves r c)) (λ _. tt)
+      (λ _. cases (Fits r false false) (inside c (r .view)) (λ _. as-was r few) (λ _. as-was r few))
+  hears-fits s from (put try c p) = cases (Fits r false false) (not (serves r c)) (λ _. tt)
+      (λ _. cases (Fits r false false) (inside c (r .view)) (λ _. as-was r few) (λ _. as-was r few))
   hears-fits s from (viewReply try v) = as-was r few
   hears-fits s from (pairReply try p) = as-was r few
   hears-fits s from (ack try) = as-was r few

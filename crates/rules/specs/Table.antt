@@ -245,7 +245,14 @@ room unruled = true
 
 -- rows 3 to 8, of a step in range
 abbrev pub further : World → Act → List (Bool × ℕ)
-further w a = (emptyPlace w a, number empty) ∷ (deadOne w a, number dead) ∷ (notNow w a, number not-now) ∷ (notYet w a, number not-yet) ∷ (wornOut w a, number worn) ∷ (not (room (ruling w a)), number no-room) ∷ []
+further w a =
+    (emptyPlace w a, number empty)
+    ∷ (deadOne w a, number dead)
+    ∷ (notNow w a, number not-now)
+    ∷ (notYet w a, number not-yet)
+    ∷ (wornOut w a, number worn)
+    ∷ (not (room (ruling w a)), number no-room)
+    ∷ []
 
 abbrev pub table : World → Step → List (Bool × ℕ)
 table w k = (outOfRange k, number bad-step) ∷ further w (told k)

@@ -255,7 +255,8 @@ module _ (b w out : List ℕ) where
   Left r w' out' = (r ≡ rehearseAnswer b w out) × ((w' ≡ worldLeft b w out) × (out' ≡ recordLeft b w out))
 
   -- what comes of the ruling comes of the call
-  left-by : (x : Ruling) → decided b w out ≡ x → (r : Rehearsed) (w' out' : List ℕ) → r ≡ answerBy out x → w' ≡ worldBy w x → out' ≡ laidBy out x → Left r w' out'
+  left-by : (x : Ruling) → decided b w out ≡ x → (r : Rehearsed) (w' out' : List ℕ) → r ≡ answerBy out x → w' ≡ worldBy w x → out' ≡ laidBy out x
+      → Left r w' out'
   unfolding rehearseAnswer worldLeft recordLeft
   left-by x e r w' out' f g h = (rw e f, (rw e g, rw e h))
 
@@ -334,7 +335,8 @@ answer-long b w out byte = cases Short (eqb (length w) 65536) (λ _. of-sheet (s
     Short x = length (recordBy (length out) x) ≤ longest 8000
 
     of-sheet : (x : Sheet) → sheetIn b ≡ x → Short (roomFor (length out) x)
-    of-sheet bad e = cases (λ (l : List ℕ). length l ≤ longest 8000) (ltb (length out) (length badOf)) (λ _. omega arith) (λ _. omega (arith, bad-long, longest-is 8000))
+    of-sheet bad e = cases (λ (l : List ℕ). length l ≤ longest 8000) (ltb (length out) (length badOf)) (λ _. omega arith)
+        (λ _. omega (arith, bad-long, longest-is 8000))
     of-sheet (sheet mask ks) e =
         let a = accepted b mask ks e in
         let few : length ks ≤ 8000 = omega (arith, count b mask ks a, sound b (a .good) .few) in
