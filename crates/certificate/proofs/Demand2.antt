@@ -237,7 +237,25 @@ module _ (c : Code) (d : Demand2 c) where
   pub demand2-no-work-at-all : ¬ ((w : List ℕ) (k : Step) → goodBytes w ≡ true → c .step-world w k ≡ w)
   demand2-no-work-at-all p = write-moves (sym (p one write one-good) ∙ leaves-as (start 1) one-formed write)
 
-  -- work in worlds that are a start, and show in all others
+  -- work in worlds that are a start, and show in all others: refusing, one reply, no work
+  used-does : c .step (image used) deliver .number ≡ 0
+  unfolding recorded
+  used-does = answers-as used used-formed deliver
+
+  used-finds : c .step (image used) next .number ≡ 3
+  unfolding recorded
+  used-finds = answers-as used used-formed next
+
+  pub demand2-show-by-refusing : ¬ ((w : List ℕ) (k : Step) → goodBytes w ≡ true → ¬ Fresh w → 0 < c .step w k .number)
+  demand2-show-by-refusing p = omega (arith, p (image used) deliver used-good used-not-fresh, used-does)
+
+  pub demand2-show-by-one-reply : (a : Answer) → ¬ ((w : List ℕ) (k : Step) → goodBytes w ≡ true → ¬ Fresh w → c .step w k ≡ a)
+  demand2-show-by-one-reply a p =
+      let same : c .step (image used) deliver .number ≡ c .step (image used) next .number =
+      ap (λ (x : Answer). x .number) (p (image used) deliver used-good used-not-fresh ∙ sym (p (image used) next used-good used-not-fresh))
+      in
+      omega (arith, same, used-does, used-finds)
+
   pub demand2-show-afterwards : ¬ ((w : List ℕ) (k : Step) → goodBytes w ≡ true → ¬ Fresh w → c .step-world w k ≡ w)
   demand2-show-afterwards p = delivered-moves (sym (p (image used) deliver used-good used-not-fresh) ∙ leaves-as used used-formed deliver)
 

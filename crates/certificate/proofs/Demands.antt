@@ -134,16 +134,23 @@ module _ (b : List ℕ) where
       go true = record { known = lit≤ tt; first = refl }
       go false = record { known = lit≤ tt; first = refl }
 
+  check-refused : 0 < checkNumber (checkOf b) → (checkOf b .mask ≡ 0) × (checkOf b .steps ≡ 0)
+  unfolding checkOf
+  check-refused = go (badSheet b)
+    where
+      go : (x : Bool) → 0 < checkNumber (checkedBy x) → (checkedBy x .mask ≡ 0) × (checkedBy x .steps ≡ 0)
+      go true h = (refl, refl)
+      go false h = absurd (omega arith)
+
   -- what a check says of an accepted sheet
-  check-accepted : checkOf b .bad ≡ false → (checkOf b .mask ≡ getD b 5 0) × (sheetIn b ≡ sheet (getD b 5 0) (stepsFrom b 6))
+  check-accepted : checkOf b .bad ≡ false → (checkOf b .mask ≡ getD b 5 0) × (checkOf b .steps ≡ stepsOf b) × (sheetIn b ≡ sheet (getD b 5 0) (stepsFrom b 6))
   unfolding checkOf sheetIn stepsFrom
   check-accepted = go (badSheet b)
     where
-      go : (x : Bool) → checkedBy x .bad ≡ false
-          → (checkedBy x .mask ≡ getD b 5 0)
+      go : (x : Bool) → checkedBy x .bad ≡ false → (checkedBy x .mask ≡ getD b 5 0) × (checkedBy x .steps ≡ stepsOf b)
           × ((if x then bad else sheet (getD b 5 0) (stepsIn (stepsOf b) (drop 6 b))) ≡ sheet (getD b 5 0) (stepsIn (stepsOf b) (drop 6 b)))
       go true e = absurd (contrary refl e)
-      go false e = (refl, refl)
+      go false e = (refl, refl, refl)
 
 sheet-bad : (b : List ℕ) → sheetIn b ≡ bad → badSheet b ≡ true
 unfolding sheetIn
@@ -370,17 +377,22 @@ module _ (c : Code) (p : Promised c) where
       let all = front b mask ks a in
       read-all (length b) b 6 (omega (arith, ap length all, count b mask ks a)) ∙ all
 
+  sheet-read : (b : List ℕ) → c .check b .bad ≡ false → (sheetIn b ≡ sheet (c .check b .mask) (readBy c b)) × (c .check b .steps ≡ length (readBy c b))
+  sheet-read b h =
+      let e = p .check-kept b in
+      let a = check-accepted b (sym (ap (λ (s : checked.Sheet). s .bad) e) ∙ h) in
+      let mask-is : c .check b .mask ≡ getD b 5 0 = ap (λ (s : checked.Sheet). s .mask) e ∙ a .0 in
+      let ks-is : readBy c b ≡ stepsFrom b 6 = read-sheet b (getD b 5 0) (stepsFrom b 6) (a .2) in
+      let many : stepsOf b ≡ length (stepsFrom b 6) = count b (getD b 5 0) (stepsFrom b 6) (accepted b (getD b 5 0) (stepsFrom b 6) (a .2)) in
+      (rw (mask-is, ks-is) (a .2), ap (λ (s : checked.Sheet). s .steps) e ∙ a .1 ∙ many ∙ ap length (sym ks-is))
+
   sheet-again : (b buf : List ℕ) → Below 256 b → c .check b .bad ≡ false → length b ≤ length buf
       → let ks = readBy c b in let r = c .write buf (c .check b .mask) (kindsOf ks) (idsOf ks) (valuesOf ks) in
       (numberOf r ≡ 0) × (sizeOf r ≡ length b) × (c .write-buf buf (c .check b .mask) (kindsOf ks) (idsOf ks) (valuesOf ks) ≡ b ++ drop (length b) buf)
   sheet-again b buf each h fits =
-      let e = p .check-kept b in
-      let a = check-accepted b (sym (ap (λ (s : checked.Sheet). s .bad) e) ∙ h) in
       let mask : ℕ = c .check b .mask in
       let ks : List Step = readBy c b in
-      let mask-is : mask ≡ getD b 5 0 = ap (λ (s : checked.Sheet). s .mask) e ∙ a .0 in
-      let ks-is : ks ≡ stepsFrom b 6 = read-sheet b (getD b 5 0) (stepsFrom b 6) (a .1) in
-      let is : sheetIn b ≡ sheet mask ks = rw (mask-is, ks-is) (a .1) in
+      let is : sheetIn b ≡ sheet mask ks = sheet-read b h .0 in
       let wrote-is : ruled buf mask (kindsOf ks) (idsOf ks) (valuesOf ks) ≡ wrote (b ++ drop (length b) buf) =
       ruled-list buf mask ks ∙ again b buf mask ks each is fits
       in
@@ -459,6 +471,7 @@ demand1 c p =
       rehearse = rehearse-numbered c p;
       step-kept = λ w k. unmoved _ _ _ (p .step-kept w k) w (stepRows w k) (step-said w k);
       start-kept = λ w mask. unmoved _ _ _ (p .start-kept w mask) w (startRows w mask) (start-said w mask);
+      check-kept = λ b. rw (p .check-kept b) (check-refused b);
       write-kept = λ buf mask kinds ids values h.
           let said = p .write-answer buf mask kinds ids values in
           let k = write-kept buf mask kinds ids values (omega (arith, said .0)) in
@@ -475,6 +488,7 @@ demand2 c p =
       run = run-good c p;
       run-started = run-started c p;
       rehearsed = rehearsed c p;
+      sheet-read = sheet-read c p;
       sheet-again = sheet-again c p;
       sheet-back = λ buf mask kinds ids values some small same alike few hk hi hv room. sheet-back c p buf mask kinds ids values some same alike few hk hi hv room;
     }

@@ -1,5 +1,5 @@
 -- DEMAND 1, as a type over programs: every step, start or sheet handed in, with any bytes, gets a number of document 01's table, the first of the rows that
--- applies; and any answer but 0 changes no byte of a lent buffer and reports nothing. (That the work always ends is in the language: a proved function ends.)
+-- applies; and any answer but 0 changes no byte of a lent buffer (but that a bad sheet's record is `bad 9`) and reports nothing. (That the work always ends is in the language: a proved function ends.)
 -- Assumes nothing.
 use mathlib.Core.Path.{_≡_}
 use mathlib.Core.Bool.{Bool, not}
@@ -81,6 +81,7 @@ pub record Demand1 (c : Code) : Type 0 where
   -- "All but 0 report event 0 with zero fields and change nothing."
   pub step-kept : (w : List ℕ) (k : Step) → 0 < c .step w k .number → (c .step-world w k ≡ w) × (reportOf (c .step w k .report) ≡ noReport)
   pub start-kept : (w : List ℕ) (mask : ℕ) → 0 < c .start w mask .number → (c .start-world w mask ≡ w) × (reportOf (c .start w mask .report) ≡ noReport)
+  pub check-kept : (b : List ℕ) → 0 < checkNumber (c .check b) → (c .check b .mask ≡ 0) × (c .check b .steps ≡ 0)
   pub write-kept : (buf : List ℕ) (mask : ℕ) (kinds ids values : List ℕ) → 0 < numberOf (c .write buf mask kinds ids values)
       → (c .write-buf buf mask kinds ids values ≡ buf) × (sizeOf (c .write buf mask kinds ids values) ≡ 0)
   pub world-kept : (sheet world out : List ℕ) → 0 < c .rehearse sheet world out .answer → c .rehearse-world sheet world out ≡ world

@@ -75,6 +75,8 @@ pub record Demand2 (c : Code) : Type 0 where
       × (c .rehearse b world out .length ≡ length (printed mask ks))
       × (c .rehearse-world b world out ≡ image (lastWorld (start mask) ks))
       × (c .rehearse-out b world out ≡ printed mask ks ++ drop (length (printed mask ks)) out)
+  -- what is checked and read of an accepted sheet is document 01's: its mask, its steps, and how many they are
+  pub sheet-read : (b : List ℕ) → c .check b .bad ≡ false → (sheetIn b ≡ sheet (c .check b .mask) (readBy c b)) × (c .check b .steps ≡ length (readBy c b))
   -- an accepted sheet, checked, read step by step and written again, gives the same bytes
   pub sheet-again : (b buf : List ℕ) → Below 256 b → c .check b .bad ≡ false → length b ≤ length buf
       → let ks = readBy c b in let r = c .write buf (c .check b .mask) (kindsOf ks) (idsOf ks) (valuesOf ks) in

@@ -89,7 +89,8 @@ unfinishedIn ts n (d ∷ ds) = unfinishedBy ts n (d .phase) (d .holds) ++ unfini
 unfoldable pub unfinished : ℕ → List Step → List Operation
 unfinished mask ks = unfinishedIn (toldIn 1 nobody ks (outcomes (start mask) ks)) 0 (lastWorld (start mask) ks .desks)
 
--- the views in which relays were ever active: the start's, and those of event 1
+-- the views that opened, as the run tells it: the start's, and those of event 1 (of the views that relays entered, told or not: `one-chain` in
+-- safety/proofs/Corollaries)
 abbrev pub openedBy : Event → List ℕ
 openedBy nothing = []
 openedBy (opened v) = v ∷ []
