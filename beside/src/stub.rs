@@ -1,6 +1,9 @@
 //! The engine's six functions made from the second program, so that the harness
 //! can be tried without the archive; and faults that the harness must find.
 
+#[cfg(not(feature = "stub"))]
+compile_error!("without its feature the stub would stand in for the engine unseen");
+
 use crate::both;
 use crate::engine::{LENGTH, TOLD};
 use crate::rehearsed::{last_world, longest};
@@ -60,6 +63,12 @@ faults! {
     GeneratorsByView "generators-by-view"
     NotesForgotten "notes-forgotten"
     ValueCut "value-cut"
+    BadUnlaid "bad-unlaid"
+    BadCut "bad-cut"
+    RoomUnasked "room-unasked"
+    RecordClears "record-clears"
+    AnyLengthRehearses "any-length-rehearses"
+    MaskZeroWritten "mask-zero-written"
 }
 
 thread_local! {
@@ -196,7 +205,7 @@ pub unsafe extern "C" fn sheet_write(
     let parts = kinds.iter().zip(ids).zip(values);
     let steps = parts.map(|((&kind, &id), &value)| Step { kind, id, value });
     let sheet = Sheet {
-        mask,
+        mask: mask.max(u8::from(has(Fault::MaskZeroWritten))),
         steps: steps.collect(),
     };
     if has(Fault::SheetCut) {
@@ -235,18 +244,22 @@ pub unsafe extern "C" fn sheet_rehearse(
 }
 
 fn rehearsed_in(bytes: &[u8], world: &mut [u8], out: &mut [u8], told: &mut [u8]) -> Answer {
-    if world.len() != SIZE {
+    if world.len() != SIZE && !has(Fault::AnyLengthRehearses) {
         return Answer::BadWorld;
     }
     let (mut record, _) = rehearse(bytes);
     let Ok(sheet) = read(bytes) else {
-        if let Some(front) = out.get_mut(..record.len()) {
-            front.copy_from_slice(record.as_bytes());
+        let cut = out.len().min(record.len());
+        if !has(Fault::BadUnlaid) && (cut == record.len() || has(Fault::BadCut)) {
+            out[..cut].copy_from_slice(&record.as_bytes()[..cut]);
         }
         return Answer::BadSheet;
     };
-    if out.len() < longest(&sheet) {
+    if out.len() < longest(&sheet) && !(has(Fault::RoomUnasked) && out.len() >= record.len()) {
         return Answer::NoRoom;
+    }
+    if has(Fault::RecordClears) {
+        out.fill(0);
     }
     let mut length = (record.len() as u32).to_be_bytes();
     if has(Fault::LengthLowByteFirst) {
@@ -256,7 +269,7 @@ fn rehearsed_in(bytes: &[u8], world: &mut [u8], out: &mut [u8], told: &mut [u8])
         record.truncate(record.find("end").expect("a record's last line"));
     }
     out[..record.len()].copy_from_slice(record.as_bytes());
-    if !has(Fault::WorldNotLeft) {
+    if !has(Fault::WorldNotLeft) && world.len() == SIZE {
         world.copy_from_slice(&last_world(&sheet));
     }
     if let Some(front) = told.get_mut(..LENGTH) {

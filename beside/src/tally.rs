@@ -11,6 +11,11 @@ const SHOWN: usize = 20;
 /// Of a whole run; a sheet of which one step is taken counts as much as one of 8,000.
 const LEAST_STEPS: u64 = 130_000;
 
+/// Of each answer 0 to 8 in a whole run: steps that are all refused compare little.
+const LEAST: [u64; 9] = [
+    105_000, 11_000, 1_600, 6_400, 1_700, 10_000, 3_800, 170, 1_200,
+];
+
 #[derive(Default)]
 pub struct Tally {
     pub passed: usize,
@@ -88,9 +93,10 @@ impl Tally {
         let enough = self.steps >= LEAST_STEPS;
         let result = enough.then_some(()).ok_or(format!("only {}", self.steps));
         self.check("steps", result);
-        for answer in 0..=8 {
-            let met = self.coverage.answers[answer] > 0;
-            let result = met.then_some(()).ok_or("never met".to_string());
+        for (answer, &least) in LEAST.iter().enumerate() {
+            let met = self.coverage.answers[answer];
+            let enough = met >= least;
+            let result = enough.then_some(()).ok_or(format!("met {met} times only"));
             self.check(&format!("answer {answer}"), result);
         }
         for event in 0..=3 {
