@@ -318,6 +318,14 @@ module _ (mask : ℕ) (ks : List Step) (some : 0 < mask) (byte : mask < 256) (fe
   rehearse-tied b world out long e fits sent delivered dropped waiting t small same =
       totals-tied sent delivered dropped waiting t (drop (length (printed mask ks)) out) small (same ∙ record-promised b world out mask ks long e fits)
 
+  -- and of what a program leaves that meets demand 2 as it is stated
+  pub demand2-totals-tied : (c : Code) → Demand2 c → (b world out : List ℕ) → sheetIn b ≡ sheet mask ks → length world ≡ 65536 → longest (length ks) ≤ length out
+      → (sent delivered dropped waiting : ℕ) (t : List ℕ) → Small sent delivered dropped waiting
+      → withTotals mask ks sent delivered dropped waiting ++ t ≡ c .rehearse-out b world out
+      → (sent ≡ sum sentBy os) × (delivered ≡ sum deliveredBy os) × (dropped ≡ sum droppedBy os) × (waiting ≡ waits)
+  demand2-totals-tied c d b world out e long room sent delivered dropped waiting t small same =
+      totals-tied sent delivered dropped waiting t (drop (length (printed mask ks)) out) small (same ∙ d .rehearsed b world out mask ks e long room .3)
+
 -- no four numbers are the totals of every run: not of a run without a step and of one with a WRITE
 pub invented-totals : (sent delivered dropped waiting : ℕ) → ¬ ((mask : ℕ) (ks : List Step) → 0 < mask → mask < 256 → length ks ≤ 8000 → withTotals mask ks sent delivered dropped waiting ≡ printed mask ks)
 unfolding recorded

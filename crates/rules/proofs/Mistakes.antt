@@ -1,23 +1,23 @@
 -- "What students will try", the three that are about these rules: each is ruled out. (The others are about views and stamps.) And what document 01 says though
 -- demand 3 does not need it. Assumes nothing.
-use mathlib.Core.Path.{_≡_, sym}
+use mathlib.Core.Path.{_≡_, refl, sym, ap}
 use mathlib.Core.Logic.{_≢_}
 use mathlib.Core.Bool.{true, false, not, and-eq-true-iff, and-false}
-use mathlib.Core.List.{List, [], _∷_}
+use mathlib.Core.List.{List, [], _∷_, _++_}
 use Prim.Native.Nat.{ℕ, _<_}
 use native.Mathlib.Omega.{arith}
 use lib.Dec.{eqb}
-use lib.ListN.{length, getD}
+use lib.ListN.{length, getD, set}
 use lib.Seq.{getD-set-same}
 use borrow.Author.Tests.{eqb-true, not-true, not-false, ne-eqb}
 use Rattle.views.proofs.Sets.{inside-lt, inside-fact}
 use Rattle.views.proofs.Truth.{never-true, cases}
-use Rattle.rules.specs.Sets.{_&&_, _||_, if_then_else_, member, inside, same, least}
+use Rattle.rules.specs.Sets.{_&&_, _||_, if_then_else_, member, inside, same, least, lacks, heard}
 use Rattle.rules.specs.Stamps.{Pair}
-use Rattle.rules.specs.Messages.{install, viewReply, pairReply, ack, toBoth, not-yet, refused, quietly}
+use Rattle.rules.specs.Messages.{proposal, install, viewReply, pairReply, ack, toMembers, toBoth, not-yet, refused, quietly}
 use Rattle.rules.specs.State.{Desk, Generator, Transfer, Relay}
-use Rattle.rules.specs.Generators.{agree, hears, settles, notesConverged, convergedHeard}
-use Rattle.rules.specs.Relays.{isFor, transferFor, putTransfer, early, takesInstall, installHeard}
+use Rattle.rules.specs.Generators.{Turn, agree, hears, settles, proposalHeard, notesConverged, raises, convergedHeard}
+use Rattle.rules.specs.Relays.{isFor, transferFor, putTransfer, early, stopped, handed, takesInstall, sentFirst, installHeard}
 use Rattle.rules.specs.Desks.{isIdle, isFirst, isSecond, current, viewCame, pairCame, ackCame, deskHears}
 use Rattle.rules.specs.WellFormed.{goodMove, goodRelay}
 use Rattle.rules.proofs.Relays.{rel-facts}
@@ -77,15 +77,21 @@ other-pair o w t (u ∷ us) h =
 
 -- ---- What demand 3 does not need (docs/CERTIFICATE.md, "Demand 3"), and document 01 says all the same.
 
+settles-proposals : (g : Generator) → settles g .next .proposals ≡ g .proposals
+unfolding settles
+settles-proposals g = cases (λ (t : Turn). t .next .proposals ≡ g .proposals) (not (same (g .own) (g .converged)) && agree (g .view) (g .proposals) (g .own)) (λ _. refl) (λ _. refl)
+
 module _ (g : Generator) (from : ℕ) (q : List ℕ) where
   -- "The newest note per sender stands for all received."
-  pub newest-proposal : from < length (g .proposals) → getD (hears g from q .next .proposals) from [] ≡ q
-  unfolding hears
-  newest-proposal h = getD-set-same (g .proposals) from q [] h
+  pub newest-proposal : from < length (g .proposals) → getD (proposalHeard g from q .next .proposals) from [] ≡ q
+  unfolding proposalHeard hears
+  newest-proposal h = rw (settles-proposals (hears g from q .next)) (getD-set-same (g .proposals) from q [] h)
 
-  pub newest-convergence : from < length (g .convergences) → getD (notesConverged g from q .convergences) from [] ≡ q
-  unfolding notesConverged
-  newest-convergence h = getD-set-same (g .convergences) from q [] h
+  pub newest-convergence : from < length (g .convergences) → getD (convergedHeard g from q .next .convergences) from [] ≡ q
+  unfolding convergedHeard raises notesConverged
+  newest-convergence h =
+      cases (λ (t : Turn). getD (t .next .convergences) from [] ≡ q) (agree (g .view) (set (g .convergences) from q) q && not (same q (g .raised)))
+      (λ _. getD-set-same (g .convergences) from q [] h) (λ _. getD-set-same (g .convergences) from q [] h)
 
   -- "If a quorum's last notes equal q and q is not the last raised, raise it": a grown one too
   pub grown-raised : agree (g .view) (notesConverged g from q .convergences) q ≡ true → same q (g .raised) ≡ false
@@ -93,17 +99,24 @@ module _ (g : Generator) (from : ℕ) (q : List ℕ) where
   unfolding convergedHeard
   grown-raised a d = rw (a, d)
 
--- "if [..] a quorum of v's last noted proposals equal own, converged becomes own": without one nothing changes
-pub no-quorum : (g : Generator) → agree (g .view) (g .proposals) (g .own) ≡ false → settles g ≡ record { next = g; sendings = [] }
+-- "if [..] a quorum of v's last noted proposals equal own, converged becomes own and goes out to all members": without one neither
+settles-none : (g : Generator) → agree (g .view) (g .proposals) (g .own) ≡ false → settles g ≡ record { next = g; sendings = [] }
 unfolding settles
-no-quorum g h = rw (h, and-false (not (same (g .own) (g .converged))))
+settles-none g h = rw (h, and-false (not (same (g .own) (g .converged))))
 
--- "If its view is inside w and it is a member of w, the transfer keeps q": no member keeps one
-pub no-member-keeps : (s : ℕ) (r : Relay) (o w : ℕ) (q : List ℕ) → member w s ≡ false → takesInstall s r o w q ≡ quietly r
-unfolding takesInstall
-no-member-keeps s r o w q h = rw (h, and-false (inside (r .view) w))
+module _ (g : Generator) (from : ℕ) (q : List ℕ) (h : agree (g .view) (set (g .proposals) from q) (heard (g .own) (g .converged) q) ≡ false) where
+  pub no-quorum : (proposalHeard g from q .next .converged ≡ g .converged)
+      × (proposalHeard g from q .sendings ≡ (if lacks q (g .own) then toMembers (g .view) (proposal (g .view) (heard (g .own) (g .converged) q)) ∷ [] else []) ++ [])
+  unfolding proposalHeard hears
+  no-quorum = let none = settles-none (hears g from q .next) h in (ap (λ (t : Turn). t .next .converged) none, ap (λ (t : Turn). hears g from q .sendings ++ t .sendings) none)
+
+-- "If its view is inside w and it is a member of w, the transfer keeps q": no member keeps one, and only stops and hands on
+pub no-member-keeps : (s : ℕ) (r : Relay) (o w : ℕ) (q : List ℕ) → member w s ≡ false → early s r o ≡ false
+    → installHeard s r o w q ≡ sentFirst (handed s r o w) (quietly (stopped s r o w))
+unfolding installHeard takesInstall
+no-member-keeps s r o w q h e = rw (e, h, and-false (inside (stopped s r o w .view) w))
 
 -- "A view reply that strictly includes the desk's view is adopted [..]; any other does nothing."
-pub other-view : (d : Desk) (from try v : ℕ) → inside (d .view) v ≡ false → viewCame d from try v ≡ quietly d
-unfolding viewCame
-other-view d from try v h = rw (h, and-false (current d from try))
+pub other-view : (n : ℕ) (d : Desk) (from try v : ℕ) → inside (d .view) v ≡ false → deskHears n d from (viewReply try v) ≡ quietly d
+unfolding deskHears viewCame
+other-view n d from try v h = rw (h, and-false (current d from try))

@@ -9,19 +9,20 @@ use native.Mathlib.Omega.{arith}
 use lib.Dec.{eqb}
 use lib.Bits.{bitOr}
 use borrow.Author.Tests.{eqb-true, eq-eqb, ne-eqb, not-false}
+use lib.ListN.{getD}
 use Rattle.views.specs.View.{clashOf, insideOf}
 use Rattle.views.specs.Chain.{plusOf, some, hasOf, conflictOf, mostOf, unionOf, heardOf}
 use Rattle.views.proofs.Truth.{cases, decided, either-true, true-left}
 use Rattle.views.proofs.Sets.{within-refl, within-trans, within-or-right, within-test, Inside, inside-fact, inside-lt}
 use Rattle.views.proofs.Among.{some-plus, lacks-fact, lacks-union-left}
 use Rattle.views.proofs.Nested.{above-fact, most-within}
-use Rattle.rules.specs.Sets.{member, within, above, has, lacks}
+use Rattle.rules.specs.Sets.{_&&_, member, within, above, has, lacks, same}
 use Rattle.rules.specs.Stamps.{Pair}
 use Rattle.rules.specs.Messages.{Body, Message, state as stateSays, proposal, viewReply, pairReply, ack, Sending, toMembers, quietly}
 use Rattle.rules.specs.State.{Place, free, waiting, placeAt, Generator, Relay, World, start, relayAt}
 use Rattle.rules.specs.declared.Desk.{Desk}
 use Rattle.rules.specs.declared.Step.{Step}
-use Rattle.rules.specs.Generators.{hears}
+use Rattle.rules.specs.Generators.{Turn, agree, hears, settles, proposalHeard}
 use Rattle.rules.specs.Relays.{early, handed}
 use Rattle.rules.specs.Desks.{isIdle, current, viewCame, pairCame, ackCame, deskHears}
 use Rattle.rules.specs.Steps.{after, stepped}
@@ -105,10 +106,18 @@ module _ (n : ℕ) (d : Desk) (from try : ℕ) (other : try ≢ d .tries) where
 -- ---- A PROPOSAL THAT HAS GROWN IS NEVER DROPPED: where q, kept for v, has a view that own lacks, every view of q, or one that includes it, is in the new own,
 -- and the new own is sent. (It need not be another one than before: `grown-may-stay`.)
 
+settles-own : (g : Generator) → settles g .next .own ≡ g .own
+unfolding settles
+settles-own g = cases (λ (t : Turn). t .next .own ≡ g .own) (not (same (g .own) (g .converged)) && agree (g .view) (g .proposals) (g .own)) (λ _. refl) (λ _. refl)
+
 module _ (v : ℕ) (g : Generator) (from : ℕ) (q : List ℕ) (k : above v q ≡ true) (l : lacks q (g .own) ≡ true) where
-  pub grown-kept : (x : ℕ) → has q x ≡ true → (y : ℕ) × (has (hears g from q .next .own) y ≡ true) × (within x y ≡ true)
+  own-is : proposalHeard g from q .next .own ≡ hears g from q .next .own
+  unfolding proposalHeard
+  own-is = settles-own (hears g from q .next)
+
+  heard-keeps : (x : ℕ) → has q x ≡ true → (y : ℕ) × (has (hears g from q .next .own) y ≡ true) × (within x y ≡ true)
   unfolding hears heardOf
-  grown-kept x h =
+  heard-keeps x h =
       let top : ℕ = bitOr (mostOf (g .own)) (mostOf q) in
       rw l (cases (λ (p : List ℕ). (y : ℕ) × (hasOf p y ≡ true) × (within x y ≡ true)) (conflictOf q (g .own))
       (λ e. (
@@ -118,9 +127,17 @@ module _ (v : ℕ) (g : Generator) (from : ℕ) (q : List ℕ) (k : above v q �
       ))
       (λ e. (x, lacks-fact q (unionOf q (g .own)) (lacks-union-left q (g .own)) x h, within-test (within-refl x))))
 
-  pub grown-sent : hears g from q .sendings ≡ toMembers (g .view) (proposal (g .view) (hears g from q .next .own)) ∷ []
+  pub grown-kept : (x : ℕ) → has q x ≡ true → (y : ℕ) × (has (proposalHeard g from q .next .own) y ≡ true) × (within x y ≡ true)
+  grown-kept x h = rw own-is (heard-keeps x h)
+
+  heard-sends : hears g from q .sendings ≡ toMembers (g .view) (proposal (g .view) (hears g from q .next .own)) ∷ []
   unfolding hears
-  grown-sent = rw l
+  heard-sends = rw l
+
+  -- it is the first thing that is sent
+  pub grown-sent : (d : Sending) → getD (proposalHeard g from q .sendings) 0 d ≡ toMembers (g .view) (proposal (g .view) (proposalHeard g from q .next .own))
+  unfolding proposalHeard
+  grown-sent d = rw (heard-sends, settles-own (hears g from q .next))
 
 -- kept for view 1: own {3, 15} with converged {3} hears {5}, and stays; 15 includes 5
 pub grown-may-stay : heardOf (3 ∷ 15 ∷ []) (3 ∷ []) (5 ∷ []) ≡ 3 ∷ 15 ∷ []
