@@ -45,9 +45,10 @@ unfolding bytesOf run sequenceBytes sequenceRowAt
 image-sequence-at-the-next p = differ many (p (sequenceBytes (3 ∷ 7 ∷ [])) 0 tt tt) tt
 
 -- a view past the length, which means nothing
-pub image-sequence-at-without-unused-views : ¬ ((s : List ℕ) (at : ℕ) → T (in-bytes s) → T (in-usize at) → rowOf (sequenceAt s at) ≡ sequenceRowAt s at)
-unfolding rowOf numberAt tab sequenceAt sequenceRowAt
-image-sequence-at-without-unused-views p = differ (λ (q : Sequence). entry 0 (q .views)) (p (0 ∷ 7 ∷ []) 0 tt tt) tt
+pub image-sequence-at-with-unused-views : ¬ ((s : List ℕ) (at : ℕ) → T (in-bytes s) → T (in-usize at)
+    → record { views = tab 15 (λ k. u16At s (at + 2 * k)); len = getD s (at + 30) 0 } ≡ sequenceRowAt s at)
+unfolding numberAt tab sequenceRowAt
+image-sequence-at-with-unused-views p = differ (λ (q : Sequence). entry 0 (q .views)) (p (0 ∷ 7 ∷ []) 0 tt tt) tt
 
 pub image-put-sequence-nowhere : ¬ ((s : List ℕ) (at : ℕ) (q : Sequence) → T (in-bytes s) → T (in-usize at) → T (in-Sequence q)
     → s ≡ placed s at (sequenceBytes (viewsOf q)))

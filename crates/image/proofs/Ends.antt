@@ -9,7 +9,7 @@ use lib.ListN.{length, getD, List·getD-eq-default}
 use Rattle.rows.specs.Bytes.{numberAt, u16At}
 use Rattle.rows.proofs.Laws.{tab-ext}
 use Rattle.rules.specs.Image.{phaseOf, pairAt, deskAt}
-use Rattle.image.specs.Parts.{headAt, sequenceRowAt, notesRowAt, generatorRowAt, transferRowAt, messageRowAt}
+use Rattle.image.specs.Parts.{headAt, countedAt, sequenceRowAt, notesRowAt, generatorRowAt, transferRowAt, messageRowAt}
 
 pub record Alike (l : List ℕ) (i j : ℕ) : Type 0 where
   pub byte : (k : ℕ) → getD l (i + k) 0 ≡ getD l (j + k) 0
@@ -42,7 +42,7 @@ u16-alike h n = number-alike (on h n) 2
 module _ {l : List ℕ} {i j : ℕ} (h : Alike l i j) where
   pub sequence-alike : sequenceRowAt l i ≡ sequenceRowAt l j
   unfolding sequenceRowAt
-  sequence-alike = rw (h .byte 30, tab-ext 15 (λ k. u16At l (i + 2 * k)) (λ k. u16At l (j + 2 * k)) (λ k p. u16-alike h (2 * k)))
+  sequence-alike = rw (tab-ext 15 (countedAt l i) (countedAt l j) (λ k p. rw (h .byte 30, u16-alike h (2 * k))), h .byte 30)
 
   pub pair-alike : pairAt l i ≡ pairAt l j
   unfolding pairAt

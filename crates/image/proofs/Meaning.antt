@@ -1,8 +1,13 @@
 -- What the rows that the code reads mean: what Image reads there. Assumes nothing.
-use mathlib.Core.Path.{_≡_, refl}
+use mathlib.Core.Path.{_≡_, sym, ap, _∙_}
 use mathlib.Core.List.{List}
-use Prim.Native.Nat.{ℕ, _+_, _*_}
+use Prim.Native.Nat.{ℕ, _+_, _*_, _<_, min}
+use native.Mathlib.Omega.{arith}
+use lib.ListN.{length, getD, take, length-take}
+use lib.Seq.{ext-getD, getD-take}
+use borrow.Author.Tests.{lt-ltb}
 use Rattle.rows.specs.Bytes.{tab}
+use Rattle.rows.proofs.Laws.{length-tab, getD-tab}
 use Rattle.views.specs.Row.{viewsOf}
 use Rattle.rules.specs.Image.{sequenceAt, generatorAt, transferAt, rowAt}
 use Rattle.state.specs.declared.Generator.{Generator}
@@ -11,10 +16,21 @@ use Rattle.state.specs.declared.Message.{Message}
 use Rattle.state.specs.Meaning.{notesOf, generatorOf, transferOf}
 use Rattle.image.specs.Parts.{messageRow, sequenceRowAt, notesRowAt, generatorRowAt, transferRowAt, messageRowAt}
 
+-- what is taken of two tables that agree so far
+taken-alike : (n m : ℕ) (f g : ℕ → ℕ) → ((k : ℕ) → k < m → f k ≡ g k) → take m (tab n f) ≡ take m (tab n g)
+taken-alike n m f g h =
+    ext-getD 0 (take m (tab n f)) (take m (tab n g)) (long f ∙ sym (long g))
+    (λ k p. let b : k < min m n = omega (arith, long f) in at f k b ∙ h k (omega arith) ∙ sym (at g k b))
+  where
+    long : (e : ℕ → ℕ) → length (take m (tab n e)) ≡ min m n
+    long e = length-take m (tab n e) ∙ ap (min m) (length-tab n e)
+    at : (e : ℕ → ℕ) (k : ℕ) → k < min m n → getD (take m (tab n e)) k 0 ≡ e k
+    at e k p = getD-take m (tab n e) k 0 (omega arith) ∙ getD-tab n k e 0 (omega arith)
+
 module _ (l : List ℕ) where
   sequence-means : (i : ℕ) → viewsOf (sequenceRowAt l i) ≡ sequenceAt l i
   unfolding viewsOf sequenceRowAt sequenceAt
-  sequence-means i = refl
+  sequence-means i = taken-alike 15 (getD l (i + 30) 0) _ _ (λ k p. rw (lt-ltb k (getD l (i + 30) 0) p))
 
   notes-means : (i : ℕ) → notesOf (notesRowAt l i) ≡ tab 8 (λ k. sequenceAt l (i + k * 31))
   unfolding notesOf notesRowAt tab

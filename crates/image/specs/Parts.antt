@@ -1,10 +1,12 @@
 -- What the code reads and writes at once and Image has no name for: eight notes, a relay without its tables, a message as the code holds it; and what it
--- reads in its own rows, whose unused entries Image does not look at. Assumes nothing.
+-- reads in its own rows, which have room for fifteen views. Assumes nothing.
 use mathlib.Core.List.{List, []}
 use Prim.Native.Nat.{ℕ, _+_, _*_}
+use lib.Dec.{ltb}
 use lib.ListN.{getD}
 use Rattle.rows.specs.Bytes.{u16At, tab, table}
 use Rattle.views.specs.declared.Sequence.{Sequence}
+use Rattle.rules.specs.Sets.{if_then_else_}
 use Rattle.rules.specs.Image.{Row, flagAt, sequenceBytes, pairAt}
 use Rattle.state.specs.declared.Notes.{Notes}
 use Rattle.state.specs.declared.Generator.{Generator}
@@ -34,9 +36,13 @@ messageRow m = addressedRow (m .from) (m .to) (m .body)
 
 -- ---- the rows of the code: what each means is what Image reads there (proofs/Meaning)
 
--- all fifteen views, and how many of them count
+-- the k-th of the row's entries; one past its length is not looked at
+abbrev pub countedAt : List ℕ → ℕ → ℕ → ℕ
+countedAt b i k = if ltb k (getD b (i + 30) 0) then u16At b (i + 2 * k) else 0
+
+-- the views that count, zeros after them, and how many count
 unfoldable pub sequenceRowAt : List ℕ → ℕ → Sequence
-sequenceRowAt b i = record { views = tab 15 (λ k. u16At b (i + 2 * k)); len = getD b (i + 30) 0 }
+sequenceRowAt b i = record { views = tab 15 (countedAt b i); len = getD b (i + 30) 0 }
 
 unfoldable pub notesRowAt : List ℕ → ℕ → Notes
 notesRowAt b i = record { of = tab 8 (λ k. sequenceRowAt b (i + k * 31)) }

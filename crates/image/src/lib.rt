@@ -2,10 +2,10 @@
 // function is total: past the end a buffer reads zero, and a row that does not fit wholly is not written. A row past the end is read as one that begins at the
 // end, so that what is added to its index stays in range.
 ghost use mathlib.Core.Path.{_≡_};
-ghost use mathlib.Core.List.{[], _++_};
+ghost use mathlib.Core.List.{[]};
 ghost use Prim.Native.Nat.{_+_, _≤_};
 ghost use lib.ListN.{length};
-ghost use Rattle.rows.specs.Bytes.{placed, fieldsOf, sum};
+ghost use Rattle.rows.specs.Bytes.{placed};
 ghost use Rattle.views.specs.Row.{viewsOf};
 ghost use Rattle.rules.specs.Image.{sequenceBytes, pairAt, headBytes, generatorBytes};
 ghost use Rattle.rules.specs.Image.{transferBytes, phaseNumber, phaseOf, deskBytes, deskAt, rowBytes};
@@ -49,11 +49,12 @@ pub fn sequence_at(s: &[u8], at: usize) -> Sequence
     ensures { λ r. ⌜ r ≡ sequenceRowAt (now (s .entry)) at ⌝ }
 {
     let a = rows::smaller(at, s.len());
+    let len = rows::byte_at(s, a + 30) as usize;
+    let n = rows::smaller(len, 15);
     let mut views = [0u16; 15];
-    for i in 0..15usize {
+    for i in 0..n {
         views[i] = rows::read_u16(s, a + 2 * i);
     }
-    let len = rows::byte_at(s, a + 30) as usize;
     Sequence { views, len }
 }
 
@@ -63,35 +64,16 @@ pub fn put_sequence(s: &mut [u8], at: usize, q: Sequence)
     if !rows::has_room(s.len(), at, 31) {
         return;
     }
+    let n = views::count(q);
+    if n == 0 {
+        rows::clear(s, at, 31);
+        return;
+    }
     for i in 0..15usize {
         let v = views::view_at(q, i);
         rows::put_u16(s, at + 2 * i, v);
     }
-    let n = views::count(q);
     rows::put_byte(s, at + 30, n as u8);
-}
-
-// A row of 80 bytes: numbers, from byte n on a sequence, and numbers.
-fn put_around(
-    s: &mut [u8],
-    at: usize,
-    n: usize,
-    widths: &[u8],
-    xs: &[u32],
-    q: Sequence,
-    last: &[u8],
-    ys: &[u32],
-)
-    requires { ⌜ sum (now widths) ≡ n ⌝ }
-    requires { ⌜ n + 31 + sum (now last) ≡ 80 ⌝ }
-    ensures { λ _. ⌜ now (s .exit) ≡ placed (now (s .entry)) at ((fieldsOf (now (widths .entry)) (now (xs .entry)) ++ sequenceBytes (viewsOf q)) ++ fieldsOf (now (last .entry)) (now (ys .entry))) ⌝ }
-{
-    if !rows::has_room(s.len(), at, 80) {
-        return;
-    }
-    rows::put_fields(s, at, widths, xs);
-    put_sequence(s, at + n, q);
-    rows::put_fields(s, at + (n + 31), last, ys);
 }
 
 pub fn pair_at(s: &[u8], at: usize) -> Pair
@@ -254,7 +236,12 @@ pub fn put_transfer(s: &mut [u8], at: usize, t: Transfer)
         best.value,
         t.gathered as u32,
     ];
-    put_around(s, at, 4, &widths, &xs, sequence, &last, &ys);
+    if !rows::has_room(s.len(), at, TRANSFER) {
+        return;
+    }
+    rows::put_fields(s, at, &widths, &xs);
+    put_sequence(s, at + 4, sequence);
+    rows::put_fields(s, at + 35, &last, &ys);
 }
 
 fn phase_number(p: Phase) -> u8
@@ -383,5 +370,10 @@ pub fn put_message(s: &mut [u8], at: usize, m: Message)
         pair.value,
         b.updates as u32,
     ];
-    put_around(s, at, 9, &widths, &xs, sequence, &last, &ys);
+    if !rows::has_room(s.len(), at, PLACE) {
+        return;
+    }
+    rows::put_fields(s, at, &widths, &xs);
+    put_sequence(s, at + 9, sequence);
+    rows::put_fields(s, at + 40, &last, &ys);
 }

@@ -2,9 +2,9 @@
 // write that does not fit wholly writes nothing. Document 01, "The world" and "Sheets and the printed record".
 ghost use mathlib.Core.Path.{_≡_};
 ghost use mathlib.Core.List.{[], _∷_};
-ghost use Prim.Native.Nat.{_+_, min};
+ghost use Prim.Native.Nat.{_+_, _≤_, min};
 ghost use lib.Dec.{leb};
-ghost use lib.ListN.{getD};
+ghost use lib.ListN.{length, getD};
 ghost use Rattle.rows.specs.Bytes.{placed, bytesOf, fieldsOf, sum, be16, u16At, u32At, zeros};
 ghost use Rattle.rows.specs.Tests.{allZero};
 
@@ -142,17 +142,29 @@ pub fn read_u32(s: &[u8], at: usize) -> u32
     high * 65536 + low
 }
 
+// Eight bytes, in one test.
+fn zero_eight(s: &[u8], at: usize) -> bool
+    requires { ⌜ at + 8 ≤ length (now s) ⌝ }
+    ensures { λ r. ⌜ r ≡ allZero (now (s .entry)) at 8 ⌝ }
+{
+    (s[at] | s[at + 1] | s[at + 2] | s[at + 3] | s[at + 4] | s[at + 5] | s[at + 6] | s[at + 7]) == 0
+}
+
 pub fn is_zero(s: &[u8], at: usize, n: usize) -> bool
     ensures { λ r. ⌜ r ≡ allZero (now (s .entry)) at n ⌝ }
 {
     if s.len() <= at {
         return true;
     }
+    let m = smaller(n, s.len() - at);
     let mut i = 0;
-    while i < n {
-        if s.len() - at <= i {
-            return true;
+    while 8 <= m - i {
+        if !zero_eight(s, at + i) {
+            return false;
         }
+        i += 8;
+    }
+    while i < m {
         if s[at + i] != 0 {
             return false;
         }

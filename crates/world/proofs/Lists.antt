@@ -8,7 +8,7 @@ use Prim.Native.Nat.{ℕ, zero, suc, _+_, _≤_, _<_}
 use native.Mathlib.Numerals.{add-one}
 use native.Mathlib.Decide.{ℕ-discrete}
 use native.Mathlib.Omega.{arith}
-use lib.Dec.{leb, lit≤}
+use lib.Dec.{leb}
 use lib.ListN.{List·getD-eq-default, length, getD, set}
 use borrow.Author.Tests.{leb-true, leb-false}
 use Rattle.views.proofs.Truth.{decided, contrary, neither-true, either-true}
@@ -93,9 +93,3 @@ module _ {A : Type 0} where
   set-self [] i d = refl
   set-self (x ∷ xs) zero d = refl
   set-self (x ∷ xs) (suc i) d = ap (λ (l : List A). x ∷ l) (set-self xs i d)
-
--- ---- a test as a number
-
-pub one-le : (b : Bool) → (if b then 1 else 0) ≤ 1
-one-le true = lit≤ tt
-one-le false = lit≤ tt

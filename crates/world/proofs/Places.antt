@@ -6,13 +6,15 @@ use mathlib.Core.List.{List, [], _∷_, _++_, map, map-append}
 use Prim.Native.Nat.{ℕ, zero, suc, _+_, _*_, _≤_, _<_, suc-le-suc}
 use native.Mathlib.Nat.{le-of-suc-le-suc}
 use native.Mathlib.Numerals.{add-one}
+use native.Mathlib.Decide.{ℕ-discrete}
 use native.Mathlib.Omega.{arith}
-use lib.Dec.{eqb, ltb}
-use lib.ListN.{length, getD, set, length-set, length-append, length-map}
-use borrow.Author.Tests.{ltb-true, ltb-false}
+use lib.Dec.{eqb, leb, ltb}
+use lib.ListN.{List·getD-append, length, getD, set, take, drop, length-set, length-append, length-map}
+use lib.Seq.{length-take-le, getD-take}
+use borrow.Author.Tests.{leb-true, leb-false, ltb-true, ltb-false}
 use Rattle.views.proofs.Truth.{decided, contrary}
 use Rattle.rows.specs.Bytes.{placed, splice, tab, cat, zeros}
-use Rattle.rows.proofs.Laws.{Holds, holds-byte, placed-fits}
+use Rattle.rows.proofs.Laws.{Holds, holds-byte, placed-fits, placed-not}
 use Rattle.rows.proofs.Change.{Changed, changed-first, changed-more, changed-set}
 use Rattle.rules.specs.Sets.{if_then_else_, bit, those}
 use Rattle.rules.specs.Messages.{Message, Sending, copies}
@@ -27,7 +29,7 @@ use Rattle.rules.proofs.ImageRows.{row-of}
 use Rattle.rules.proofs.ImageRead.{holds-place}
 use Rattle.rules.proofs.ImageWrite.{put-place}
 use Rattle.rules.proofs.ImageZeros.{place-zeros}
-use Rattle.world.specs.Commits.{First, freeRow, freeRows, receiversBelow, freedAt, message, isWaiting, delivered}
+use Rattle.world.specs.Commits.{First, freeRow, freeRows, TakenTo, receiversBelow, freedAt, message, isWaiting, delivered}
 use Rattle.world.proofs.Lists.{those-more, those-same}
 
 -- ---- a place's kind is 0 exactly where it is free
@@ -89,6 +91,22 @@ rows-none l = refl
 pub rows-more : (l : List ℕ) (n : ℕ) → freeRows l (n + 1) ≡ freeRows l n + (if freeRow l n then 1 else 0)
 unfolding freeRows
 rows-more l n = rw (add-one, freeRows)
+
+pub rows-one : (l : List ℕ) (n : ℕ) → freeRow l n ≡ true → freeRows l (n + 1) ≡ freeRows l n + 1
+rows-one l n e = rows-more l n ∙ rw e
+
+pub rows-same : (l : List ℕ) (n : ℕ) → freeRow l n ≡ false → freeRows l (n + 1) ≡ freeRows l n + 0
+rows-same l n e = rows-more l n ∙ rw e
+
+-- further on no fewer are free
+pub rows-grow : (l : List ℕ) (m n : ℕ) → m ≤ n → freeRows l m ≤ freeRows l n
+unfolding freeRows
+rows-grow l m zero h = let z : m ≡ 0 = omega arith in rw z (omega arith)
+rows-grow l m (suc n) h = go (ℕ-discrete m (suc n)) (λ k. rows-grow l m n k)
+  where
+    go : Dec (m ≡ suc n) → (m ≤ n → freeRows l m ≤ freeRows l n) → freeRows l m ≤ freeRows l n + (if freeRow l n then 1 else 0)
+    go (yes e) r = rw e (omega arith)
+    go (no q) r = omega (arith, r (omega arith))
 
 -- ---- a place freed
 
@@ -156,6 +174,32 @@ module _ (w : World) (long : length (w .places) ≡ 256) where
   pub put-nowhere : (m : Message) (p : ℕ) → First 256 (freeRow (image w)) p → 256 ≤ p → place m (w .places) ≡ w .places
   put-nowhere m p f h = full m (w .places) (λ k q. not-free _ (sym (free-row w k (omega arith)) ∙ f .below k (omega arith)))
 
+-- ---- the places below that of a row that is written stay taken
+
+byte-before : (l b : List ℕ) (o k : ℕ) → k < o → getD (placed l o b) k 0 ≡ getD l k 0
+unfolding splice
+byte-before l b o k h = ⊎-elim fits misses (decided (leb (o + length b) (length l)))
+  where
+    fits : leb (o + length b) (length l) ≡ true → getD (placed l o b) k 0 ≡ getD l k 0
+    fits e =
+        let room = leb-true (o + length b) (length l) e in
+        rw (placed-fits l b o room)
+        (List·getD-append (take o l) (b ++ drop (o + length b) l) 0 k (rw (length-take-le o l (omega arith)) h) ∙ getD-take o l k 0 h)
+
+    misses : leb (o + length b) (length l) ≡ false → getD (placed l o b) k 0 ≡ getD l k 0
+    misses e = rw (placed-not l b o (leb-false (o + length b) (length l) e))
+
+pub taken-none : {l : List ℕ} → TakenTo l 0
+taken-none {l} = record { within = omega arith; each = λ k h. absurd (omega arith) }
+
+pub taken-put : (l t b : List ℕ) (p : ℕ) → First 256 (freeRow l) p → t ≡ placed l (43776 + p * 80) b → TakenTo t p
+unfolding freeRow
+taken-put l t b p f e =
+    record {
+      within = f .within;
+      each = λ k h. ap (λ (x : ℕ). eqb x 0) (ap (λ (s : List ℕ). getD s (43776 + k * 80) 0) e ∙ byte-before l b (43776 + p * 80) (43776 + k * 80) (omega arith)) ∙ f .below k h;
+    }
+
 -- ---- sent
 
 pub places-append : (a b : List Message) (ps : List Place) → placeAll (a ++ b) ps ≡ placeAll b (placeAll a ps)
@@ -192,6 +236,14 @@ module _ (m i : ℕ) where
   pub receiver-counted : length (receiversBelow m (i + 1)) ≡ length (receiversBelow m i) + (if bit m i then 1 else 0)
   receiver-counted =
       ⊎-elim (λ e. rw (receiver-more e, e) (length-append (receiversBelow m i) (i ∷ []))) (λ e. rw (receiver-same e, e) (omega arith)) (decided (bit m i))
+
+-- where there are none
+pub no-copies : (from : ℕ) (x : Sending) → x .receivers ≡ 0 → copies from x ≡ []
+unfolding copiesBelow
+no-copies from x e = all-copies from x ∙ rw (e, nobody)
+  where
+    nobody : receiversBelow 0 12 ≡ []
+    nobody = unfold receiversBelow tab those in refl
 
 -- a buffer s₀ into which the copies below n are sent
 pub record Sent (s₀ : List ℕ) (from : ℕ) (x : Sending) (s : List ℕ) (n : ℕ) : Type 0 where

@@ -37,6 +37,11 @@ unfoldable pub freeRows : List ℕ → ℕ → ℕ
 freeRows l zero = 0
 freeRows l (suc n) = freeRows l n + (if freeRow l n then 1 else 0)
 
+-- no place below p is free
+pub record TakenTo (l : List ℕ) (p : ℕ) : Type 0 where
+  pub within : p ≤ 256
+  pub each : (k : ℕ) → k < p → freeRow l k ≡ false
+
 -- row k of the generators that begin at i is not filled, or is for the view v; row k of the transfers, for the move from o to n
 unfoldable pub endsView : List ℕ → ℕ → ℕ → ℕ → Bool
 endsView l i v k = eqb (u16At l (i + k * 592)) 0 || eqb (u16At l (i + k * 592)) v

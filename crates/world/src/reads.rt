@@ -11,7 +11,7 @@ ghost use Rattle.rules.specs.Steps.{aliveIn};
 ghost use Rattle.rules.specs.Image.{worldAt, goodBytes, generatorAt};
 ghost use Rattle.state.specs.Meaning.{partOf, generatorOf};
 ghost use Rattle.locality.specs.Narrow.{move, narrow, widened};
-ghost use Rattle.world.specs.Commits.{First, rowOf, freeRow, freeRows, endsView, endsMove, receiversBelow};
+ghost use Rattle.world.specs.Commits.{First, rowOf, freeRow, TakenTo, freeRows, endsView, endsMove, receiversBelow};
 use state::Generator;
 use state::Part;
 
@@ -34,13 +34,14 @@ pub(crate) fn free_places(w: &[u8]) -> usize
     n
 }
 
-// "the lowest free place", or 256.
-pub(crate) fn first_free(w: &[u8]) -> usize
+// "the lowest free place", or 256, where none below `low` is free.
+pub(crate) fn first_free(w: &[u8], low: usize) -> usize
+    requires { ⌜ TakenTo (now w) low ⌝ }
     ensures { λ r. ⌜ First 256 (freeRow (now (w .entry))) r ⌝ }
 {
-    for low in 0..256usize {
-        if is_free(w, low) {
-            return low;
+    for p in low..256usize {
+        if is_free(w, p) {
+            return p;
         }
     }
     256
@@ -67,11 +68,32 @@ fn delivered(p: usize) -> usize
     0
 }
 
+// Whether n places are free: the walk ends with the n-th of them.
+fn has_free(w: &[u8], n: usize) -> bool
+    ensures { λ r. ⌜ r ≡ leb n (freeRows (now (w .entry)) 256) ⌝ }
+{
+    let mut seen = 0;
+    for p in 0..256usize {
+        if is_free(w, p) {
+            seen += 1;
+            if n <= seen {
+                return true;
+            }
+        }
+    }
+    n <= seen
+}
+
 // NO ROOM: "the step needs more messages [..] than are free at its begin, its own delivered place counted as free"
 pub(crate) fn has_room(w: &[u8], p: usize, first: u16, second: u16) -> bool
     ensures { λ r. ⌜ r ≡ leb (length (receiversBelow first 12) + length (receiversBelow second 12)) (freeRows (now (w .entry)) 256 + (if ltb p 256 then 1 else 0)) ⌝ }
 {
-    receivers(first) + receivers(second) <= free_places(w) + delivered(p)
+    let needed = receivers(first) + receivers(second);
+    let own = delivered(p);
+    if needed <= own {
+        return true;
+    }
+    has_free(w, needed - own)
 }
 
 // ---- relays and desks

@@ -13,7 +13,7 @@ ghost use Rattle.rules.specs.Relays.{freshTransfer};
 ghost use Rattle.rules.specs.Image.{transferBytes, image, worldAt, goodBytes};
 ghost use Rattle.state.specs.Meaning.{transferOf, partOf, bodyOf, sendingOf};
 ghost use Rattle.locality.specs.Narrow.{widened};
-ghost use Rattle.world.specs.Commits.{freedAt, keptRows, message};
+ghost use Rattle.world.specs.Commits.{TakenTo, freedAt, keptRows, message};
 use state::Body;
 use state::Message;
 use state::Part;
@@ -32,14 +32,16 @@ pub(crate) fn free(w: &mut [u8], p: usize)
     rows::clear(w, image::PLACES + p * image::PLACE, image::PLACE);
 }
 
-// "A new message takes the lowest free place"
-fn place(w: &mut [u8], from: u8, to: u8, body: Body)
-    ensures { λ _. ⌜ ((W : World) → length (W .places) ≡ 256 → now (w .entry) ≡ image W
+// "A new message takes the lowest free place", and none below `low` is free; none below the result is free afterwards.
+fn place(w: &mut [u8], low: usize, from: u8, to: u8, body: Body) -> usize
+    requires { ⌜ TakenTo (now w) low ⌝ }
+    ensures next { λ r. ⌜ TakenTo (now (w .exit)) r ⌝ }
+    ensures bytes { λ _. ⌜ ((W : World) → length (W .places) ≡ 256 → now (w .entry) ≡ image W
         → now (w .exit) ≡ image (withPlaces W (rules.place (message from (bodyOf body) to) (W .places)))) ⌝ }
 {
-    let p = super::reads::first_free(w);
+    let p = super::reads::first_free(w, low);
     if 256 <= p {
-        return;
+        return low;
     }
     let plain = messages::plain(body);
     let m = Message {
@@ -48,18 +50,23 @@ fn place(w: &mut [u8], from: u8, to: u8, body: Body)
         body: plain,
     };
     image::put_message(w, image::PLACES + p * image::PLACE, m);
+    p
 }
 
-// "each to its receivers in ascending order"
+// "each to its receivers in ascending order"; each search goes on where the last one ended.
 pub(crate) fn send(w: &mut [u8], from: u8, x: Sending)
     ensures { λ _. ⌜ ((W : World) → length (W .places) ≡ 256 → now (w .entry) ≡ image W
         → now (w .exit) ≡ image (withPlaces W (rules.placeAll (copies from (sendingOf x)) (W .places)))) ⌝ }
 {
     let m = x.receivers;
+    if m == 0 {
+        return;
+    }
     let body = x.body;
+    let mut low = 0;
     for n in 0..12u8 {
         if (m >> n) % 2 == 1 {
-            place(w, from, n, body);
+            low = place(w, low, from, n, body);
         }
     }
 }

@@ -1,18 +1,38 @@
 -- `world::reads::has_room` meets its contract. Assumes nothing.
+use mathlib.Core.Path.{_≡_, refl, sym, _∙_}
+use mathlib.Core.Bool.{Bool, true, false}
+use Prim.Native.Nat.{ℕ, _+_, _-_, _<_}
 use native.Mathlib.Omega.{arith}
+use lib.Dec.{leb, ltb}
+use lib.ListN.{length}
 use borrow.Author.Needs.{needs}
-use lib.Dec.{ltb}
-use Rattle.world.proofs.Lists.{one-le}
+use borrow.Author.Tests.{le-leb, lt-leb, leb-true, leb-false}
+use Rattle.rules.specs.Sets.{if_then_else_}
+use Rattle.world.specs.Commits.{freeRows, receiversBelow}
 use Rattle.world.proofs.reads.has_room.Statement.{statement}
 use Rattle.world.proofs.reads.has_room.Tie as tie
 
-add-result-2 : tie.Need-add-result-2
-add-result-2 c =
-    let d = c .delivered .ensures in
-    omega (arith, one-le (ltb (c .before .before .before .before .before .args .p) 256))
+-- what is lacking, tested alone
+lacking : (m n o : ℕ) → o < m → leb (m - o) n ≡ leb m (n + o)
+lacking m n o h = go (leb m (n + o)) refl
+  where
+    go : (b : Bool) → leb m (n + o) ≡ b → leb (m - o) n ≡ b
+    go true e = le-leb (m - o) n (omega (arith, leb-true m (n + o) e))
+    go false e = lt-leb (m - o) n (omega (arith, leb-false m (n + o) e))
 
 returns : tie.Need-returns
-returns c = rw (c .before .before .before .receivers .ensures .0, c .before .before .receivers2 .ensures .0, c .before .free-places .ensures .0, c .delivered .ensures)
+returns c =
+    let d = c .before in
+    let r = d .before in
+    let a = r .before .before .before .args in
+    sym (le-leb (length (receiversBelow (a .first) 12) + length (receiversBelow (a .second) 12)) (freeRows (a .w .now) 256 + (if ltb (a .p) 256 then 1 else 0)) (omega arith))
+
+returns-2 : tie.Need-returns-2
+returns-2 c =
+    let d = c .before .before in
+    let r = d .before in
+    let a = r .before .before .before .args in
+    c .has-free .ensures ∙ lacking (r .before .receivers .result + r .receivers2 .result) (freeRows (a .w .now) 256) (d .delivered .result) (omega arith) ∙ rw (r .before .receivers .ensures .0, r .receivers2 .ensures .0, d .delivered .ensures)
 
 pub has-room-spec : {M : Type 1} → statement M
-has-room-spec = tie.close (tie.spec (λ c κs. tt) (λ c κs. tt) (λ c. search needs) (λ c κs. tt) (λ c κs. tt) add-result-2 returns)
+has-room-spec = tie.close (tie.spec (λ c κs. tt) (λ c κs. tt) (λ c. search needs) (λ c κs. tt) returns (λ c. search needs) (λ c κs. tt) returns-2)
