@@ -13,8 +13,8 @@ use Rattle.rules.specs.declared.Desk.{Desk}
 use Rattle.rules.specs.declared.Step.{Step}
 use Rattle.rules.specs.Sets.{_&&_}
 use Rattle.rules.specs.Steps.{Act, join, leave, timer, read, write, deliver, drop, crash, bad, told, Outcome, refusal, done, report, reports, roomy, relayDoes, deskDoes, aliveIn, ifAlive, freed, delivers, delivery, dropping, crashing, acts, stepped}
-use Rattle.rules.specs.Image.{worldAt, goodBytes}
-use Rattle.rules.specs.Lent.{Lent, left, lentStep, lentStart}
+use Rattle.layout.specs.Image.{worldAt, goodBytes}
+use Rattle.layout.specs.Lent.{Lent, left, lentStep, lentStart}
 use Rattle.rules.specs.Sheets.{Written as Ruling, bad-sheet, no-room, wrote}
 use Rattle.rules.specs.Sheets as sheets
 use Rattle.sheet.specs.declared.Written.{Written}

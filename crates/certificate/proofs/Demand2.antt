@@ -15,16 +15,16 @@ use Rattle.rules.specs.Sending.{waitingIn}
 use Rattle.rules.specs.WellFormed.{wellFormed}
 use Rattle.rules.specs.declared.Step.{Step}
 use Rattle.rules.specs.Steps.{Outcome, refusal, done, after, report, stepped}
-use Rattle.rules.specs.Image.{placeRow, image, goodBytes}
-use Rattle.rules.specs.Lent.{Lent, left, lentStep}
+use Rattle.layout.specs.Image.{placeRow, image, goodBytes}
+use Rattle.layout.specs.Lent.{Lent, left, lentStep}
 use Rattle.rules.specs.Sheets.{stepsIn, allZerosIn, sheet, sheetIn}
 use Rattle.rules.specs.Runs.{longest, outcomes, lastWorld, sentBy, deliveredBy, droppedBy, sum, answer, fields, stepLines, printed, startOf, endOf}
 use Rattle.rules.specs.Examples.{recorded}
 use Rattle.rules.proofs.Kept.{good-facts, step-keeps, always-good}
 use Rattle.rules.proofs.Starts.{start-good}
 use Rattle.rules.proofs.Counts.{places-all, run-few, sent-is-sum}
-use Rattle.rules.proofs.ImageWidths.{length-image}
-use Rattle.rules.proofs.ImageWorld.{world-back, image-good, image-injective}
+use Rattle.layout.proofs.Widths.{length-image}
+use Rattle.layout.proofs.World.{world-back, image-good, image-injective}
 use Rattle.record.specs.Lines.{laid}
 use Rattle.record.proofs.Laying.{laid-whole}
 use Rattle.record.proofs.Whole.{printed-is}

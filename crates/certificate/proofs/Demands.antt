@@ -17,15 +17,15 @@ use Rattle.rules.specs.declared.Step.{Step}
 use Rattle.rules.specs.Steps.{Outcome, refusal, done, noReport, after, report, stepped}
 use Rattle.rules.specs.Table.{firstOf, table}
 use Rattle.rules.specs.WellFormed.{wellFormed}
-use Rattle.rules.specs.Image.{image, worldAt, goodBytes}
-use Rattle.rules.specs.Lent.{Lent, kept, left, lentStep, lentStart}
+use Rattle.layout.specs.Image.{image, worldAt, goodBytes}
+use Rattle.layout.specs.Lent.{Lent, kept, left, lentStep, lentStart}
 use Rattle.rules.specs.Sheets.{Written, wrote, written, Sheet, sheet, bad, badSheet, stepsOf, stepsIn, sheetIn, sheetBytes}
 use Rattle.rules.specs.Sheets as sheets
 use Rattle.rules.specs.Runs.{outcomes, lastWorld, answer, printed, longest}
 use Rattle.rules.proofs.Refusals.{number-range, every-answer}
 use Rattle.rules.proofs.Order.{first-applies}
 use Rattle.rules.proofs.Starts.{start-good}
-use Rattle.rules.proofs.ImageWorld.{good-formed, good-image}
+use Rattle.layout.proofs.World.{good-formed, good-image}
 use Rattle.sheet.specs.declared.Sheet as checked
 use Rattle.sheet.specs.declared.Found.{Found}
 use Rattle.sheet.specs.declared.Found.the-variants.{At, End}

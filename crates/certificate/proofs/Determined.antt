@@ -29,8 +29,8 @@ use Rattle.rules.specs.Generators as generators
 use Rattle.rules.specs.Relays as relays
 use Rattle.rules.specs.Desks.{begun, ended}
 use Rattle.rules.specs.Desks as desks
-use Rattle.rules.specs.Image.{sequenceBytes, pairAt, headBytes, generatorBytes, transferBytes, deskBytes, deskAt, rowBytes, goodBytes}
-use Rattle.rules.specs.Lent.{Lent, lentStart, lentStep}
+use Rattle.layout.specs.Image.{sequenceBytes, pairAt, headBytes, generatorBytes, transferBytes, deskBytes, deskAt, rowBytes, goodBytes}
+use Rattle.layout.specs.Lent.{Lent, lentStart, lentStep}
 use Rattle.rules.specs.Sets.{if_then_else_}
 use Rattle.rules.specs.Sheets as sheets
 use Rattle.rules.specs.Runs.{decimal, line, fields, startOf, endOf, badOf}

@@ -14,13 +14,13 @@ use Rattle.rules.specs.declared.Desk.{Desk}
 use Rattle.rules.specs.declared.Phase.{Phase}
 use Rattle.rules.specs.declared.Phase.the-variants.{Idle, Read1, Read2, Write1, Write2}
 use Rattle.rules.specs.WellFormed.{wellFormed}
-use Rattle.rules.specs.Image.{flag, sequenceBytes, pairBytes, pairFields, headBytes, headFields, generatorBytes, generatorFields}
-use Rattle.rules.specs.Image.{transferBytes, transferFields, relayBytes, relayFields, phaseNumber, deskBytes, deskFields}
-use Rattle.rules.specs.Image.{Row, placeRow, rowBytes, rowFields, placeBytes, image, worldTables}
+use Rattle.layout.specs.Image.{flag, sequenceBytes, pairBytes, pairFields, headBytes, headFields, generatorBytes, generatorFields}
+use Rattle.layout.specs.Image.{transferBytes, transferFields, relayBytes, relayFields, phaseNumber, deskBytes, deskFields}
+use Rattle.layout.specs.Image.{Row, placeRow, rowBytes, rowFields, placeBytes, image, worldTables}
 use Rattle.rules.proofs.Sheets.{Bytes}
-use Rattle.rules.proofs.ImageFits.{SequenceFits, PairFits, NotesFit, GeneratorFits, TransferFits, RelayFits, DeskFits, RowFits}
-use Rattle.rules.proofs.ImageWidths.{length-image}
-use Rattle.rules.proofs.ImageWorld.{world-fits}
+use Rattle.layout.proofs.Fits.{SequenceFits, PairFits, NotesFit, GeneratorFits, TransferFits, RelayFits, DeskFits, RowFits}
+use Rattle.layout.proofs.Widths.{length-image}
+use Rattle.layout.proofs.World.{world-fits}
 use Rattle.certificate.proofs.Typed.{in-u8, every, in-bytes}
 
 -- ---- bytes, and pieces of bytes one after another

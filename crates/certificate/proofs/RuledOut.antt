@@ -22,7 +22,7 @@ use Rattle.stamps.specs.declared.Pair.{Pair}
 use Rattle.rows.specs.Bytes.{splice, placed, bytesOf, fieldsOf, numberAt, be16, u16At, u32At, run, zeros}
 use Rattle.rows.specs.Tests.{all, allZero}
 use Rattle.rules.specs.Desks.{cleared, begun, ended}
-use Rattle.rules.specs.Image.{phaseNumber}
+use Rattle.layout.specs.Image.{phaseNumber}
 use Rattle.rules.specs.declared.Desk.{Desk}
 use Rattle.rules.specs.declared.Phase.{Phase}
 use Rattle.rules.specs.declared.Phase.the-variants.{Idle, Read1}

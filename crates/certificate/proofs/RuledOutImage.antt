@@ -11,7 +11,7 @@ use Rattle.stamps.specs.declared.Pair.{Pair}
 use Rattle.stamps.specs.Stamp.{freshPair}
 use Rattle.rows.specs.Bytes.{splice, placed, bytesOf, numberAt, be16, u16At, run, tab, cat, zeros}
 use Rattle.rules.specs.State.{withKnown}
-use Rattle.rules.specs.Image.{flagAt, sequenceBytes, sequenceAt, pairBytes, pairAt, headBytes, generatorBytes, transferBytes, deskBytes, deskAt, rowBytes}
+use Rattle.layout.specs.Image.{flagAt, sequenceBytes, sequenceAt, pairBytes, pairAt, headBytes, generatorBytes, transferBytes, deskBytes, deskAt, rowBytes}
 use Rattle.rules.specs.declared.Desk.{Desk}
 use Rattle.rules.specs.declared.Phase.the-variants.{Read1}
 use Rattle.state.specs.declared.Notes.{Notes}

@@ -23,7 +23,7 @@ use Rattle.rules.specs.Generators as generators
 use Rattle.rules.specs.Relays as relays
 use Rattle.rules.specs.Desks.{cleared}
 use Rattle.rules.specs.Desks as desks
-use Rattle.rules.specs.Image.{phaseNumber, bodyRow, bodyIn}
+use Rattle.layout.specs.Image.{phaseNumber, bodyRow, bodyIn}
 use Rattle.rules.specs.declared.Desk.{Desk}
 use Rattle.rules.specs.declared.Phase.{Phase}
 use Rattle.rules.specs.declared.Phase.the-variants.{Idle, Read1}

@@ -12,15 +12,15 @@ use Rattle.rules.specs.Sending.{waitingIn}
 use Rattle.rules.specs.WellFormed.{wellFormed}
 use Rattle.rules.specs.declared.Step.{Step}
 use Rattle.rules.specs.Steps.{after, stepped}
-use Rattle.rules.specs.Image.{image, goodBytes}
-use Rattle.rules.specs.Lent.{Lent, left, lentStart, lentStep}
+use Rattle.layout.specs.Image.{image, goodBytes}
+use Rattle.layout.specs.Lent.{Lent, left, lentStart, lentStep}
 use Rattle.rules.specs.Sheets as sheets
 use Rattle.rules.specs.Sheets.{mark, stepsOf, stepsIn, allZerosIn, badSheet, sheetIn}
 use Rattle.rules.specs.Runs.{outcomes, sentBy, deliveredBy, droppedBy, sum, fields, digits, line, stepLines, lastWorld, longest, rehearsed, startOf, endOf, badOf}
 use Rattle.rules.specs.Examples.{recorded}
 use Rattle.rules.proofs.Kept.{step-keeps, run-keeps}
-use Rattle.rules.proofs.ImageWidths.{length-image}
-use Rattle.rules.proofs.ImageWorld.{image-injective}
+use Rattle.layout.proofs.Widths.{length-image}
+use Rattle.layout.proofs.World.{image-injective}
 use Rattle.sheet.specs.Writing as writing
 use Rattle.sheet.specs.Writing.{listed, bufferOf}
 use Rattle.record.specs.Lines.{laid}

@@ -15,11 +15,11 @@ use Rattle.rules.specs.State.{World, start}
 use Rattle.rules.specs.WellFormed.{wellFormed}
 use Rattle.rules.specs.declared.Step.{Step}
 use Rattle.rules.specs.Steps.{noReport, stepped}
-use Rattle.rules.specs.Image.{image, worldAt, goodBytes}
-use Rattle.rules.specs.Lent.{left, lentStep, lentStart}
+use Rattle.layout.specs.Image.{image, worldAt, goodBytes}
+use Rattle.layout.specs.Lent.{left, lentStep, lentStart}
 use Rattle.rules.proofs.Starts.{start-good}
-use Rattle.rules.proofs.ImageWidths.{world-widths, length-image}
-use Rattle.rules.proofs.ImageWorld.{world-back, image-good, good-image}
+use Rattle.layout.proofs.Widths.{world-widths, length-image}
+use Rattle.layout.proofs.World.{world-back, image-good, good-image}
 use Rattle.views.proofs.Truth.{never-true}
 use Rattle.certificate.proofs.Typed.{in-bytes}
 use Rattle.certificate.proofs.ImageTyped.{image-bytes, changed-bytes}

@@ -6,7 +6,7 @@ use mathlib.Core.Path.{_≡_}
 use mathlib.Core.List.{List}
 use Prim.Native.Nat.{ℕ}
 use Rattle.rules.specs.declared.Step.{Step}
-use Rattle.rules.specs.Lent.{lentStart, lentStep}
+use Rattle.layout.specs.Lent.{lentStart, lentStep}
 use Rattle.rules.specs.Sheets.{number}
 use Rattle.sheet.specs.declared.Sheet.{Sheet}
 use Rattle.sheet.specs.declared.Written.{Written}

@@ -12,7 +12,7 @@ use Rattle.rules.specs.Messages.{bad-world, bad-step, no-room, number}
 use Rattle.rules.specs.declared.Step.{Step}
 use Rattle.rules.specs.Steps.{noReport}
 use Rattle.rules.specs.Table.{firstOf, table}
-use Rattle.rules.specs.Image.{worldAt, goodBytes}
+use Rattle.layout.specs.Image.{worldAt, goodBytes}
 use Rattle.rules.specs.Sheets.{stepsOf, badSheet}
 use Rattle.rules.specs.Sheets as sheets
 use Rattle.rules.specs.Runs.{longest, badOf}

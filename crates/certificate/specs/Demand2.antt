@@ -8,7 +8,7 @@ use lib.ListN.{length, getD, take, drop}
 use Rattle.rules.specs.State.{start}
 use Rattle.rules.specs.declared.Step.{Step}
 use Rattle.rules.specs.Steps.{Outcome, noReport, after, report, stepped}
-use Rattle.rules.specs.Image.{image, worldAt, goodBytes}
+use Rattle.layout.specs.Image.{image, worldAt, goodBytes}
 use Rattle.rules.specs.Sheets.{sheet, sheetIn}
 use Rattle.rules.specs.Runs.{outcomes, lastWorld, answer, fields, printed, longest}
 use Rattle.sheet.specs.declared.Found.{Found}

@@ -9,7 +9,7 @@ use Rattle.views.proofs.Truth.{cases, contrary}
 use Rattle.rules.specs.Sets.{if_then_else_}
 use Rattle.rules.specs.Messages as rules
 use Rattle.rules.specs.declared.Desk.{Desk}
-use Rattle.rules.specs.Image.{bodyIn}
+use Rattle.layout.specs.Image.{bodyIn}
 use Rattle.rules.specs.Desks.{current, viewCame, pairCame, ackCame, deskHears}
 use Rattle.state.specs.declared.Body.{Body}
 use Rattle.state.specs.Meaning.{bodyOf}

@@ -8,9 +8,9 @@ use borrow.Author.Tests.{ne-eqb}
 use Rattle.views.proofs.Truth.{cases}
 use Rattle.rows.specs.Bytes.{be32}
 use Rattle.rules.specs.Sets.{if_then_else_}
-use Rattle.rules.specs.Image.{worldAt, goodBytes}
+use Rattle.layout.specs.Image.{worldAt, goodBytes}
 use Rattle.rules.specs.Steps.{Outcome, refusal, done, stepped}
-use Rattle.rules.specs.Lent.{Lent, left, lentStart, lentStep}
+use Rattle.layout.specs.Lent.{Lent, left, lentStart, lentStep}
 use Rattle.rules.specs.Sheets.{Written, wrote, number}
 use Rattle.rules.specs.Sheets as sheets
 use Rattle.sheet.specs.Writing.{bufferOf}

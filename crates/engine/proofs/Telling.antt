@@ -11,7 +11,7 @@ use Rattle.rows.specs.Bytes.{splice, placed, bytesOf, be32, cat}
 use Rattle.rows.proofs.Laws.{placed-fits}
 use Rattle.rows.proofs.Numbers.{length-bytesOf}
 use Rattle.rules.specs.Sets.{if_then_else_}
-use Rattle.rules.specs.Lent.{Lent, lentStep}
+use Rattle.layout.specs.Lent.{Lent, lentStep}
 use Rattle.rules.specs.Sheets.{badSheet, stepsOf}
 use Rattle.sheet.specs.Reading.{checkOf}
 use Rattle.sheet.specs.declared.Sheet.{Sheet}

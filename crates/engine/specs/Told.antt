@@ -6,9 +6,9 @@ use lib.ListN.{length, getD, drop}
 use Rattle.rows.specs.Bytes.{be16, be32, cat}
 use Rattle.rules.specs.Sets.{if_then_else_}
 use Rattle.rules.specs.Messages.{bad-world, no-room, number}
-use Rattle.rules.specs.Image.{byte, goodBytes}
+use Rattle.layout.specs.Image.{byte, goodBytes}
 use Rattle.rules.specs.Runs.{fields}
-use Rattle.rules.specs.Lent.{Lent, lentStep}
+use Rattle.layout.specs.Lent.{Lent, lentStep}
 use Rattle.rules.specs.Sheets.{badSheet}
 use Rattle.rules.specs.Sheets as sheets
 use Rattle.world.specs.Playing.{rehearseAnswer, worldLeft, recordLeft}

@@ -1,7 +1,7 @@
 // The engine for C and Rust: byte slices and numbers only. A slice passes as a pointer and then a length. c/engine.h has what a caller owes.
 ghost use mathlib.Core.Path.{_≡_};
 ghost use Rattle.rows.specs.Bytes.{placed, be32};
-ghost use Rattle.rules.specs.Lent.{lentStart};
+ghost use Rattle.layout.specs.Lent.{lentStart};
 ghost use Rattle.rules.specs.Sheets.{number};
 ghost use Rattle.sheet.specs.Writing.{ruled, bufferOf};
 ghost use Rattle.world.specs.Playing.{columnsOf};

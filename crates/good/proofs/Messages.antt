@@ -12,8 +12,8 @@ use Rattle.rows.specs.Tests.{allZero}
 use Rattle.rows.proofs.All.{all-fails}
 use Rattle.rules.specs.State.{free, waiting}
 use Rattle.rules.specs.WellFormed.{goodPlace}
-use Rattle.rules.specs.Image.{placeBytes, rowBytes, rowAt, placeIn}
-use Rattle.rules.proofs.ImageZeros.{place-zeros}
+use Rattle.layout.specs.Image.{placeBytes, rowBytes, rowAt, placeIn}
+use Rattle.layout.proofs.Zeros.{place-zeros}
 use Rattle.state.specs.declared.Body.{Body}
 use Rattle.state.specs.declared.Message.{Message}
 use Rattle.state.specs.Meaning.{bodyOf, messageOf}

@@ -20,8 +20,8 @@ use Rattle.views.proofs.Truth.{same-truth}
 use Rattle.rules.specs.Sets.{_&&_, _||_, those, all, allHold}
 use Rattle.rules.specs.WellFormed.{distinct}
 use Rattle.rules.proofs.Hold.{hold-facts, hold-tests}
-use Rattle.rules.proofs.ImageFits.{RowsFit}
-use Rattle.rules.proofs.ImageRows.{rows-back}
+use Rattle.layout.proofs.Fits.{RowsFit}
+use Rattle.layout.proofs.Rows.{rows-back}
 use Rattle.good.specs.Rows.{held, differs}
 use Rattle.good.proofs.Held.{all-tab, all-list, distinct-tab, all-same, held-true, held-fact, zero-part, zero-join, all-none-zero}
 

@@ -23,13 +23,13 @@ use Rattle.rules.specs.declared.Desk.{Desk}
 use Rattle.rules.specs.Generators.{fresh}
 use Rattle.rules.specs.Relays.{freshTransfer}
 use Rattle.rules.specs.WellFormed.{isView, isPair, implies, sameBool, goodGenerator, goodTransfer, otherView, otherMove, goodGenerators, goodTransfers, goodRelay, goodDesk, goodPlace, wellFormed}
-use Rattle.rules.specs.Image.{headBytes, generatorBytes, transferBytes, relayBytes, deskBytes, placeBytes, image, generatorAt, transferAt, filledGenerator, filledTransfer, relayAt, deskAt, rowAt, placeIn, worldAt, goodBytes}
+use Rattle.layout.specs.Image.{headBytes, generatorBytes, transferBytes, relayBytes, deskBytes, placeBytes, image, generatorAt, transferAt, filledGenerator, filledTransfer, relayAt, deskAt, rowAt, placeIn, worldAt, goodBytes}
 use Rattle.rules.proofs.Hold.{hold-facts, hold-tests}
-use Rattle.rules.proofs.ImageWidths.{length-head, length-generator, length-transfer, length-relay, length-desk, length-place, length-image, world-widths}
-use Rattle.rules.proofs.ImageFits.{GeneratorFits, TransferFits, generator-fits, transfer-fits, generator-filled, transfer-filled, no-generator, no-transfer}
-use Rattle.rules.proofs.ImageRows.{unfilled-generator, unfilled-transfer, generator-back, transfer-back, holds-head, holds-generators, holds-transfers}
-use Rattle.rules.proofs.ImageRead.{holds-desk, holds-place, holds-relay}
-use Rattle.rules.proofs.ImageZeros.{generator-zeros, transfer-zeros}
+use Rattle.layout.proofs.Widths.{length-head, length-generator, length-transfer, length-relay, length-desk, length-place, length-image, world-widths}
+use Rattle.layout.proofs.Fits.{GeneratorFits, TransferFits, generator-fits, transfer-fits, generator-filled, transfer-filled, no-generator, no-transfer}
+use Rattle.layout.proofs.Rows.{unfilled-generator, unfilled-transfer, generator-back, transfer-back, holds-head, holds-generators, holds-transfers}
+use Rattle.layout.proofs.Read.{holds-desk, holds-place, holds-relay}
+use Rattle.layout.proofs.Zeros.{generator-zeros, transfer-zeros}
 use Rattle.state.specs.declared.Head.{Head}
 use Rattle.state.specs.Meaning.{relayOf}
 use Rattle.image.specs.Parts.{headAt}

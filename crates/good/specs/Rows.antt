@@ -10,7 +10,7 @@ use Rattle.rules.specs.Sets.{if_then_else_, _&&_, _||_}
 use Rattle.rules.specs.Messages.{Body}
 use Rattle.rules.specs.State.{Place, waiting}
 use Rattle.rules.specs.WellFormed.{goodGenerator, goodTransfer, goodRelay, goodDesk, goodPlace, otherView, otherMove}
-use Rattle.rules.specs.Image.{headBytes, generatorBytes, transferBytes, deskBytes, placeBytes, generatorAt, transferAt, deskAt, rowAt, placeIn}
+use Rattle.layout.specs.Image.{headBytes, generatorBytes, transferBytes, deskBytes, placeBytes, generatorAt, transferAt, deskAt, rowAt, placeIn}
 use Rattle.state.specs.Meaning.{relayOf}
 use Rattle.image.specs.Parts.{headAt}
 

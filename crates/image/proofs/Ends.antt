@@ -8,7 +8,7 @@ use native.Mathlib.Omega.{arith}
 use lib.ListN.{length, getD, List·getD-eq-default}
 use Rattle.rows.specs.Bytes.{numberAt, u16At}
 use Rattle.rows.proofs.Laws.{tab-ext}
-use Rattle.rules.specs.Image.{phaseOf, pairAt, deskAt}
+use Rattle.layout.specs.Image.{phaseOf, pairAt, deskAt}
 use Rattle.image.specs.Parts.{headAt, countedAt, sequenceRowAt, notesRowAt, generatorRowAt, transferRowAt, messageRowAt}
 
 pub record Alike (l : List ℕ) (i j : ℕ) : Type 0 where

@@ -11,7 +11,7 @@ use Rattle.rows.specs.Bytes.{placed, bytesOf, fieldsOf, cat, sum, zeros}
 use Rattle.rows.proofs.Laws.{put-first, put-then}
 use Rattle.rows.proofs.Numbers.{byte-number, fields-length, zeros-number}
 use Rattle.stamps.specs.declared.Pair.{Pair}
-use Rattle.rules.specs.Image.{flag, pairBytes, sequenceBytes}
+use Rattle.layout.specs.Image.{flag, pairBytes, sequenceBytes}
 use Rattle.image.proofs.Widths.{length-sequence}
 
 pub flag-number : (b : Bool) → bytesOf 1 (boolByte b) ≡ flag b

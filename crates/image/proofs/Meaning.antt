@@ -9,7 +9,7 @@ use borrow.Author.Tests.{lt-ltb}
 use Rattle.rows.specs.Bytes.{tab}
 use Rattle.rows.proofs.Laws.{length-tab, getD-tab}
 use Rattle.views.specs.Row.{viewsOf}
-use Rattle.rules.specs.Image.{sequenceAt, generatorAt, transferAt, rowAt}
+use Rattle.layout.specs.Image.{sequenceAt, generatorAt, transferAt, rowAt}
 use Rattle.state.specs.declared.Generator.{Generator}
 use Rattle.state.specs.declared.Transfer.{Transfer}
 use Rattle.state.specs.declared.Message.{Message}

@@ -11,8 +11,8 @@ use Rattle.views.specs.Row.{viewsOf}
 use Rattle.rules.specs.Sets.{if_then_else_, _&&_, those}
 use Rattle.rules.specs.State.{Generator, Transfer, free, waiting}
 use Rattle.rules.specs.Messages as rules
-use Rattle.rules.specs.Image.{bodyRow, bodyIn, placeIn, rowBytes, placeBytes, headBytes, relayAt, generatorAt, transferAt, filledGenerator, filledTransfer}
-use Rattle.rules.proofs.ImageRows.{addressed, row-of}
+use Rattle.layout.specs.Image.{bodyRow, bodyIn, placeIn, rowBytes, placeBytes, headBytes, relayAt, generatorAt, transferAt, filledGenerator, filledTransfer}
+use Rattle.layout.proofs.Rows.{addressed, row-of}
 use Rattle.state.specs.declared.Head.{Head}
 use Rattle.state.specs.declared.Message.{Message}
 use Rattle.state.specs.Meaning.{rowOfBody, relayOf, bodyOf, messageOf}

@@ -7,9 +7,9 @@ use Rattle.rows.specs.Bytes.{be16, run}
 use Rattle.rows.proofs.Laws.{length-run}
 use Rattle.rows.proofs.Numbers.{length-be16}
 use Rattle.rows.proofs.Tables.{table-length}
-use Rattle.rules.specs.Image.{sequenceBytes}
+use Rattle.layout.specs.Image.{sequenceBytes}
 use Rattle.image.specs.Parts.{notesBytes}
-pub use Rattle.rules.proofs.ImageWidths.{length-sequence, length-pair, length-head, length-generator, length-transfer, length-desk, length-row}
+pub use Rattle.layout.proofs.Widths.{length-sequence, length-pair, length-head, length-generator, length-transfer, length-desk, length-row}
 
 pub length-views : (q : List ℕ) → length (run 15 (λ k. be16 (getD q k 0))) ≡ 30
 length-views q = length-run 2 15 (λ k. be16 (getD q k 0)) (λ k. length-be16 (getD q k 0))

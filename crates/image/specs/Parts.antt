@@ -7,7 +7,7 @@ use lib.ListN.{getD}
 use Rattle.rows.specs.Bytes.{u16At, tab, table}
 use Rattle.views.specs.declared.Sequence.{Sequence}
 use Rattle.rules.specs.Sets.{if_then_else_}
-use Rattle.rules.specs.Image.{Row, flagAt, sequenceBytes, pairAt}
+use Rattle.layout.specs.Image.{Row, flagAt, sequenceBytes, pairAt}
 use Rattle.state.specs.declared.Notes.{Notes}
 use Rattle.state.specs.declared.Generator.{Generator}
 use Rattle.state.specs.declared.Transfer.{Transfer}

@@ -9,8 +9,8 @@ use Rattle.views.proofs.Rows.{held}
 use Rattle.views.proofs.Truth.{cases}
 use Rattle.rules.specs.Sets.{if_then_else_}
 use Rattle.rules.specs.Messages as rules
-use Rattle.rules.specs.Image.{bodyRow, bodyIn}
-use Rattle.rules.proofs.ImageRows.{addressed, row-of}
+use Rattle.layout.specs.Image.{bodyRow, bodyIn}
+use Rattle.layout.proofs.Rows.{addressed, row-of}
 use Rattle.state.specs.declared.Body.{Body}
 use Rattle.state.specs.declared.Sending.{Sending}
 use Rattle.state.specs.Meaning.{rowOfBody, bodyOf, sendingOf}

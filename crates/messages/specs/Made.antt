@@ -7,7 +7,7 @@ use Rattle.views.specs.declared.Sequence.{Sequence}
 use Rattle.rules.specs.Sets.{if_then_else_, _&&_, only}
 use Rattle.rules.specs.Stamps.{zeroPair}
 use Rattle.rules.specs.Messages as rules
-use Rattle.rules.specs.Image.{bodyRow}
+use Rattle.layout.specs.Image.{bodyRow}
 use Rattle.state.specs.declared.Body.{Body}
 use Rattle.state.specs.declared.Sending.{Sending}
 

@@ -3,7 +3,7 @@ ghost use mathlib.Core.Path.{_≡_};
 ghost use Rattle.views.specs.Row.{viewsOf};
 ghost use Rattle.rules.specs.Sets.{members, joined};
 ghost use Rattle.rules.specs.Messages as rules;
-ghost use Rattle.rules.specs.Image.{tryIn};
+ghost use Rattle.layout.specs.Image.{tryIn};
 ghost use Rattle.state.specs.Meaning.{rowOfBody, bodyOf};
 ghost use Rattle.messages.specs.Made.{blankOf, madeWith, made, sendTo, oneOf};
 use stamps::Pair;

@@ -18,10 +18,3 @@ pub mod Taken
 pub mod Mistakes
 pub mod Busy
 pub mod Worked
-pub mod ImageWidths
-pub mod ImageFits
-pub mod ImageRows
-pub mod ImageWorld
-pub mod ImageWrite
-pub mod ImageRead
-pub mod ImageZeros

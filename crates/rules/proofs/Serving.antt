@@ -1,15 +1,17 @@
 -- JOIN, LEAVE, TIMER, Request, View, Get, Put keep a relay good, and send well; so does whatever a relay hears. Assumes nothing.
 use mathlib.Core.Path.{_≡_, refl, ap, _∙_}
 use mathlib.Core.Bool.{true, not, and-eq-true-iff}
+use mathlib.Core.Logic.{⊎-elim}
 use mathlib.Core.List.{[], _∷_}
-use Prim.Native.Nat.{ℕ, _^_, _<_}
+use Prim.Native.Nat.{ℕ, _+_, _^_, _<_}
 use native.Mathlib.Omega.{arith}
 use lib.Bits.{or-lt}
 use lib.Dec.{eqb, ltb}
-use borrow.Author.Tests.{ltb-true, not-true, not-false, lt-ltb, eq-eqb}
+use lib.Pow.{pow-lt}
+use borrow.Author.Tests.{ltb-true, eqb-true, not-true, not-false, lt-ltb, eq-eqb}
 use Rattle.views.proofs.Nested.{above-test, above-none, above-more}
 use Rattle.views.proofs.Sets.{inside-or, within-test, member-bit}
-use Rattle.views.proofs.Truth.{contrary, true-left, true-right, neither-true, cases}
+use Rattle.views.proofs.Truth.{contrary, true-left, true-right, either-true, neither-true, cases}
 use Rattle.rules.specs.Sets.{_&&_, _||_, bit, within, member, inside, joins, leaves, joined}
 use Rattle.rules.specs.Stamps.{Pair}
 use Rattle.rules.specs.Messages.{Body, request, view, proposal, converged, install, state, get, put, viewReply, pairReply, ack, Message, toMembers, toOne}
@@ -20,7 +22,12 @@ use Rattle.rules.proofs.Hold.{hold-facts, hold-tests}
 use Rattle.rules.proofs.Sends.{SendWell, sends-none, sends-one, from-member, to-member, only-one}
 use Rattle.rules.proofs.Relays.{Rel, GoodAnswer, refuses-well, does-well, proposal-kept, converged-kept, propose-kept}
 use Rattle.rules.proofs.Transfers.{greatest-pair, state-kept, install-kept}
-use Rattle.rules.proofs.ImageFits.{update-small}
+
+-- an update of a relay is a view
+pub update-small : (s u c : ℕ) → s < 8 → goodRequest s u c ≡ true → u < 65536
+update-small s u c h e =
+    ⊎-elim (λ k. rw (eqb-true u (joins s) (and-eq-true-iff (eqb u (joins s)) (not (within u c)) .0 k .0)) (pow-lt {i = s} {j = 16} (omega arith)))
+    (λ k. rw (eqb-true u (leaves s) (and-eq-true-iff (eqb u (leaves s)) (member c s) .0 k .0)) (pow-lt {i = 8 + s} {j = 16} (omega arith))) (either-true _ _ e)
 
 module _ (s : ℕ) (r : Relay) (h : Rel s r) (small : s < 8) where
   -- ---- JOIN, LEAVE

@@ -18,7 +18,6 @@ use Rattle.rules.specs.Messages.{state, Sending, toMembers, opened, Answ
 use Rattle.rules.specs.State.{Transfer, Relay, withActive, withTransfers}
 use Rattle.rules.specs.Relays.{freshTransfer, isFor, transferFor, putTransfer, keeps, gathers, passes, moved, onward, enters, tested, early, stopped, handed, takesInstall, sentFirst, installHeard, stateHeard}
 use Rattle.rules.specs.WellFormed.{isPair, distinct, goodMove, goodInstalled, goodTransfer, otherMove, goodBody}
-use Rattle.rules.specs.Lent.{kept}
 use Rattle.rules.proofs.Hold.{hold-facts, hold-tests, all-parts, all-those, distinct-those, all-put, distinct-put}
 use Rattle.rules.proofs.Sends.{SendWell, SendsWell, sends-none, sends-one, sends-append, one-more}
 use Rattle.rules.proofs.Relays.{Rel, rel-tables, GoodAnswer, refuses-well, tells-well, does-well, propose-kept}

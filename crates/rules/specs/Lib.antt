@@ -1,5 +1,4 @@
--- To be read in this order, beside document 01. The rules are Sets to Steps; none of them speaks of bytes. WellFormed says which worlds are good, Image what
--- bytes mean, Lent what a step does to a lent buffer.
+-- To be read in this order, beside document 01. The rules are Sets to Steps. WellFormed says which worlds are good. The bytes of a world are crate `layout`.
 pub mod Sets
 pub mod Stamps
 pub mod Messages
@@ -11,8 +10,6 @@ pub mod Sending
 pub mod Steps
 pub mod Table
 pub mod WellFormed
-pub mod Image
-pub mod Lent
 pub mod Sheets
 pub mod Runs
 pub mod History

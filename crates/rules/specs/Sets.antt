@@ -12,6 +12,25 @@ unfoldable pub use Rattle.views.specs.View.{memberOf as member, reachesOf as re
 pub use Rattle.views.specs.Chain.{hasOf as has, lacksOf as lacks, conflictOf as conflict, leastOf as least, mostOf as most, beyondOf as beyond}
 unfoldable pub use Rattle.views.specs.Chain.{some, sameOf as same, plusOf as plus, unionOf as unite, heardOf as heard, aboveOf as above}
 
+-- how many there are: relays and desks, both together, message places, a relay's generators or transfers, views in a sequence
+abbrev pub relayCount : ℕ
+relayCount = 8
+
+abbrev pub deskCount : ℕ
+deskCount = 4
+
+abbrev pub everyone : ℕ
+everyone = relayCount + deskCount
+
+abbrev pub placeCount : ℕ
+placeCount = 256
+
+abbrev pub seatCount : ℕ
+seatCount = 8
+
+abbrev pub viewCount : ℕ
+viewCount = 15
+
 -- the updates "relay s joined" and "relay s left", +s and -s
 abbrev pub joins : ℕ → ℕ
 joins s = 2 ^ s

@@ -2,6 +2,19 @@
 ghost use mathlib.Core.Path.{_≡_};
 ghost use Rattle.rules.specs.Desks.{cleared, begun, ended};
 
+// How many there are: relays and desks, both together, message places, a relay's generators or transfers, views in a sequence.
+pub const RELAYS: usize = 8;
+
+pub const DESKS: usize = 4;
+
+pub const EVERYONE: usize = RELAYS + DESKS;
+
+pub const PLACES: usize = 256;
+
+pub const SEATS: usize = 8;
+
+pub const VIEWS: usize = 15;
+
 // The refusals, as document 01's table of answers numbers them.
 pub const BAD_WORLD: u8 = 1;
 

@@ -8,7 +8,7 @@ use Rattle.rules.specs.Sets.{if_then_else_}
 use Rattle.rules.specs.Messages as rules
 use Rattle.rules.specs.State.{Relay}
 use Rattle.rules.specs.State as rules-state
-use Rattle.rules.specs.Image.{Row, row, bodyIn}
+use Rattle.layout.specs.Image.{Row, row, bodyIn}
 use Rattle.state.specs.declared.Notes.{Notes}
 use Rattle.state.specs.declared.Generator.{Generator}
 use Rattle.state.specs.declared.Transfer.{Transfer}

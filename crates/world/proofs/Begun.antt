@@ -17,15 +17,15 @@ use Rattle.rows.proofs.Laws.{placed-fits}
 use Rattle.rows.proofs.Tables.{splice-whole, length-zeros}
 use Rattle.rules.specs.State.{Relay, noRelay, noDesk, free, World, relayAt, deskAt, withRelay, withDesk, crashedRelay, crashedDesk, startRelay, startDesk, start}
 use Rattle.rules.specs.declared.Desk.{Desk}
-use Rattle.rules.specs.Image.{headBytes, relayBytes, deskBytes, image, worldAt, goodBytes}
+use Rattle.layout.specs.Image.{headBytes, relayBytes, deskBytes, image, worldAt, goodBytes}
 use Rattle.rules.specs.Messages.{bad-world, bad-step}
 use Rattle.rules.specs.Steps.{noReport, crashing}
-use Rattle.rules.specs.Lent.{kept, left, lentStart}
-use Rattle.rules.proofs.ImageWidths.{length-head, length-desk, length-image}
-use Rattle.rules.proofs.ImageWorld.{Shaped, good-image}
-use Rattle.rules.proofs.ImageWrite.{write-head, put-head, write-relay, write-desk, put-desk}
-use Rattle.rules.proofs.ImageFits.{replicate-at}
-use Rattle.rules.proofs.ImageZeros.{image-zeros}
+use Rattle.layout.specs.Lent.{kept, left, lentStart}
+use Rattle.layout.proofs.Widths.{length-head, length-desk, length-image}
+use Rattle.layout.proofs.World.{Shaped, good-image}
+use Rattle.layout.proofs.Write.{write-head, put-head, write-relay, write-desk, put-desk}
+use Rattle.layout.proofs.Fits.{replicate-at}
+use Rattle.layout.proofs.Zeros.{image-zeros}
 use Rattle.world.specs.Answer.{accepted}
 use Rattle.world.specs.Commits.{rowOf, relaysTo, desksTo, begun}
 use Rattle.world.proofs.Good.{shaped}

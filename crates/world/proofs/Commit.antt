@@ -16,12 +16,12 @@ use Rattle.rules.specs.State.{Relay, noRelay, noDesk, World, relayAt, withRelay
 use Rattle.rules.specs.declared.Desk.{Desk}
 use Rattle.rules.specs.Sending.{placeAll, freeIn}
 use Rattle.rules.specs.Steps.{reports, roomy, relayDoes, deskDoes, freed}
-use Rattle.rules.specs.Image.{deskBytes, image, worldAt, goodBytes}
-use Rattle.rules.specs.Lent.{kept}
+use Rattle.layout.specs.Image.{deskBytes, image, worldAt, goodBytes}
+use Rattle.layout.specs.Lent.{kept}
 use Rattle.rules.proofs.Kept.{places-length}
-use Rattle.rules.proofs.ImageWidths.{length-desk, length-image}
-use Rattle.rules.proofs.ImageWorld.{good-image}
-use Rattle.rules.proofs.ImageWrite.{put-desk}
+use Rattle.layout.proofs.Widths.{length-desk, length-image}
+use Rattle.layout.proofs.World.{good-image}
+use Rattle.layout.proofs.Write.{put-desk}
 use Rattle.state.specs.Plans.{Planned, noSending, planned}
 use Rattle.world.specs.Answer.{accepted}
 use Rattle.locality.specs.Narrow.{widened}

@@ -18,11 +18,11 @@ use Rattle.rules.specs.Generators.{fresh}
 use Rattle.rules.specs.Relays.{freshTransfer, isFor}
 use Rattle.rules.specs.Steps.{aliveIn}
 use Rattle.rules.specs.WellFormed.{goodRelay, goodPlace, wellFormed}
-use Rattle.rules.specs.Image.{generatorAt, transferAt, relayAt, deskAt, rowAt, placeIn, worldAt, goodBytes}
+use Rattle.layout.specs.Image.{generatorAt, transferAt, relayAt, deskAt, rowAt, placeIn, worldAt, goodBytes}
 use Rattle.rules.proofs.Hold.{hold-facts, from-at, all-at}
-use Rattle.rules.proofs.ImageFits.{RelayFits}
-use Rattle.rules.proofs.ImageWorld.{no-relay, no-place, Shaped, WorldFits, world-fits, good-formed, good-image}
-use Rattle.rules.proofs.ImageRead.{read-generator, read-transfer}
+use Rattle.layout.proofs.Fits.{RelayFits}
+use Rattle.layout.proofs.World.{no-relay, no-place, Shaped, WorldFits, world-fits, good-formed, good-image}
+use Rattle.layout.proofs.Read.{read-generator, read-transfer}
 use Rattle.state.specs.declared.Head.{Head}
 use Rattle.state.specs.Meaning.{relayOf, asList}
 use Rattle.image.specs.Parts.{headAt}

@@ -10,11 +10,11 @@ use Rattle.rules.specs.State.{start}
 use Rattle.rules.specs.declared.Step.{Step}
 use Rattle.rules.specs.Steps.{Outcome, refusal, done, after, stepped}
 use Rattle.rules.specs.WellFormed.{wellFormed}
-use Rattle.rules.specs.Image.{worldAt, goodBytes}
-use Rattle.rules.specs.Lent.{left, lentStep, lentStart}
+use Rattle.layout.specs.Image.{worldAt, goodBytes}
+use Rattle.layout.specs.Lent.{left, lentStep, lentStart}
 use Rattle.rules.proofs.Kept.{step-keeps}
 use Rattle.rules.proofs.Starts.{start-good}
-use Rattle.rules.proofs.ImageWorld.{image-good, good-formed}
+use Rattle.layout.proofs.World.{image-good, good-formed}
 
 module _ (b : List ℕ) where
   pub step-stays : goodBytes b ≡ true → (k : Step) → goodBytes (lentStep b k .buffer) ≡ true

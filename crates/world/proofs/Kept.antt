@@ -11,8 +11,8 @@ use Rattle.views.specs.Row.{viewsOf}
 use Rattle.rules.specs.Sets.{those, inside}
 use Rattle.rules.specs.State as state
 use Rattle.rules.specs.Relays.{freshTransfer}
-use Rattle.rules.specs.Image.{transferAt}
-use Rattle.rules.proofs.ImageFits.{replicate-at}
+use Rattle.layout.specs.Image.{transferAt}
+use Rattle.layout.proofs.Fits.{replicate-at}
 use Rattle.rows.proofs.Change.{changed-add}
 use Rattle.state.specs.declared.Transfer.{Transfer}
 use Rattle.state.specs.Meaning.{transferOf}

@@ -21,14 +21,14 @@ use Rattle.rules.specs.Messages.{Message, Sending, copies}
 use Rattle.rules.specs.State.{Place, free, waiting, World, placeAt, withPlaces}
 use Rattle.rules.specs.Sending.{place, placeAll, freeIn}
 use Rattle.rules.specs.Steps.{freed}
-use Rattle.rules.specs.Image.{placeRow, rowBytes, placeBytes, image}
+use Rattle.layout.specs.Image.{placeRow, rowBytes, placeBytes, image}
 use Rattle.rules.specs.Table.{isFree}
 use Rattle.rules.proofs.Kept.{places-length}
-use Rattle.rules.proofs.ImageWidths.{length-place, length-image}
-use Rattle.rules.proofs.ImageRows.{row-of}
-use Rattle.rules.proofs.ImageRead.{holds-place}
-use Rattle.rules.proofs.ImageWrite.{put-place}
-use Rattle.rules.proofs.ImageZeros.{place-zeros}
+use Rattle.layout.proofs.Widths.{length-place, length-image}
+use Rattle.layout.proofs.Rows.{row-of}
+use Rattle.layout.proofs.Read.{holds-place}
+use Rattle.layout.proofs.Write.{put-place}
+use Rattle.layout.proofs.Zeros.{place-zeros}
 use Rattle.world.specs.Commits.{First, freeRow, freeRows, TakenTo, receiversBelow, freedAt, message, isWaiting, delivered}
 use Rattle.world.proofs.Lists.{those-more, those-same}
 

@@ -16,15 +16,15 @@ use Rattle.rules.specs.declared.Step.{Step}
 use Rattle.rules.specs.Sending.{waitingIn}
 use Rattle.rules.specs.Steps.{Outcome, refusal, done, after, report, stepped}
 use Rattle.rules.specs.WellFormed.{wellFormed}
-use Rattle.rules.specs.Image.{image, worldAt, goodBytes}
-use Rattle.rules.specs.Lent.{Lent, left, lentStep, lentStart}
+use Rattle.layout.specs.Image.{image, worldAt, goodBytes}
+use Rattle.layout.specs.Lent.{Lent, left, lentStep, lentStart}
 use Rattle.rules.specs.Sheets.{Sheet, bad, sheet, sheetIn, badSheet, stepsIn, stepsOf}
 use Rattle.rules.specs.Runs.{outcomes, lastWorld, sum, deliveredBy, droppedBy, answer, fields, digits, line, stepLine, stepLines, longest, printed, startOf, endOf, badOf, rehearsal, rehearsed}
 use Rattle.rules.proofs.Counts.{places-all, run-few, sent-is-sum}
 use Rattle.rules.proofs.Starts.{start-good}
 use Rattle.rules.proofs.Kept.{step-keeps, always-good}
 use Rattle.rules.proofs.Longest.{longest-is, printed-longest}
-use Rattle.rules.proofs.ImageWorld.{world-fits, world-back, image-good, good-formed, good-image}
+use Rattle.layout.proofs.World.{world-fits, world-back, image-good, good-formed, good-image}
 use Rattle.sheet.specs.declared.Sheet as checked
 use Rattle.sheet.specs.Reading.{checkOf, readOf, stepsFrom}
 use Rattle.sheet.proofs.Walk.{check-reads, accepted, count, sound, front}

@@ -18,12 +18,12 @@ use Rattle.rules.specs.Sets.{those, inside}
 use Rattle.rules.specs.State.{Generator, Transfer, Relay, noRelay, World, relayAt, withRelay, withGenerators, withTransfers}
 use Rattle.rules.specs.Generators.{fresh}
 use Rattle.rules.specs.Relays.{freshTransfer}
-use Rattle.rules.specs.Image.{headBytes, generatorBytes, transferBytes, relayBytes, image, transferAt, filledTransfer, worldAt, goodBytes}
-use Rattle.rules.specs.Image.{relayAt as relayIn}
-use Rattle.rules.proofs.ImageWidths.{length-head, length-generator, length-transfer, length-image}
-use Rattle.rules.proofs.ImageWorld.{Shaped, good-image}
+use Rattle.layout.specs.Image.{headBytes, generatorBytes, transferBytes, relayBytes, image, transferAt, filledTransfer, worldAt, goodBytes}
+use Rattle.layout.specs.Image.{relayAt as relayIn}
+use Rattle.layout.proofs.Widths.{length-head, length-generator, length-transfer, length-image}
+use Rattle.layout.proofs.World.{Shaped, good-image}
 use Rattle.rows.proofs.Change.{Changed}
-use Rattle.rules.proofs.ImageWrite.{put-head, put-generator, put-transfer, put-transfers, write-relay, shaped-relay}
+use Rattle.layout.proofs.Write.{put-head, put-generator, put-transfer, put-transfers, write-relay, shaped-relay}
 use Rattle.state.specs.declared.Part.{Part}
 use Rattle.state.specs.Meaning.{generatorOf, transferOf, relayOf, partOf}
 use Rattle.image.proofs.Parts.{head-alone}

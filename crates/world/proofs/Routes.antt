@@ -17,11 +17,11 @@ use Rattle.rules.specs.declared.Step.{Step}
 use Rattle.rules.specs.Relays.{relayHears}
 use Rattle.rules.specs.Desks.{deskHears}
 use Rattle.rules.specs.WellFormed.{goodBody, goodPlace}
-use Rattle.rules.specs.Image.{bodyIn, placeIn, rowAt, image, worldAt, goodBytes}
-use Rattle.rules.specs.Lent.{kept, left, lentStep}
+use Rattle.layout.specs.Image.{bodyIn, placeIn, rowAt, image, worldAt, goodBytes}
+use Rattle.layout.specs.Lent.{kept, left, lentStep}
 use Rattle.rules.proofs.Kept.{to-desk}
 use Rattle.rules.specs.Table.{isFree}
-use Rattle.rules.proofs.ImageWorld.{good-image}
+use Rattle.layout.proofs.World.{good-image}
 use Rattle.state.specs.declared.Body as code-body
 use Rattle.state.specs.declared.Message as code-message
 use Rattle.state.specs.Meaning.{bodyOf, messageOf}

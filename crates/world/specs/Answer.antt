@@ -4,7 +4,7 @@ use Prim.Native.Nat.{ℕ}
 use Rattle.rules.specs.Messages.{opened, readDone, writeDone}
 use Rattle.rules.specs.Steps.{noReport}
 use Rattle.rules.specs.Steps as rules
-use Rattle.rules.specs.Lent.{Lent}
+use Rattle.layout.specs.Lent.{Lent}
 use Rattle.rules.specs.Runs.{fields}
 use Rattle.world.specs.declared.Answer.{Answer}
 use Rattle.world.specs.declared.Report.{Report}

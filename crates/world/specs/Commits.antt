@@ -11,8 +11,8 @@ use Rattle.rules.specs.Messages.{Body, Message, Answer}
 use Rattle.rules.specs.State.{Transfer, Relay, Place, free, waiting, noRelay, noDesk, World, relayAt, deskAt, placeAt, startRelay, startDesk}
 use Rattle.rules.specs.declared.Desk.{Desk}
 use Rattle.rules.specs.Steps.{Act, deliver, drop, Outcome, relayDoes, deskDoes, freed}
-use Rattle.rules.specs.Image.{transferAt, worldAt}
-use Rattle.rules.specs.Lent.{Lent, left}
+use Rattle.layout.specs.Image.{transferAt, worldAt}
+use Rattle.layout.specs.Lent.{Lent, left}
 use Rattle.locality.specs.Narrow.{widens}
 use Rattle.locality.specs.Asked.{relayAsked, deskAsked}
 

@@ -9,7 +9,7 @@ use Rattle.rules.specs.Messages as table
 use Rattle.rules.specs.State.{World, start}
 use Rattle.rules.specs.declared.Step.{Step}
 use Rattle.rules.specs.Steps.{after, stepped}
-use Rattle.rules.specs.Image.{image}
+use Rattle.layout.specs.Image.{image}
 use Rattle.rules.specs.Sheets as sheets
 use Rattle.rules.specs.Sheets.{Sheet, bad, sheet, sheetIn}
 use Rattle.rules.specs.Runs.{outcomes, lastWorld, sum, deliveredBy, droppedBy, stepLine, stepLines, printed, longest, badOf}

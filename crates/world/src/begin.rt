@@ -3,7 +3,7 @@ ghost use mathlib.Core.Path.{_≡_};
 ghost use mathlib.Core.List.{[]};
 ghost use Prim.Native.Nat.{_<_};
 ghost use Rattle.rules.specs.State.{startRelay, startDesk};
-ghost use Rattle.rules.specs.Image.{image};
+ghost use Rattle.layout.specs.Image.{image};
 ghost use Rattle.state.specs.Meaning.{relayOf};
 ghost use Rattle.world.specs.Commits.{begun};
 use rules::Desk;

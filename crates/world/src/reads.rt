@@ -8,7 +8,7 @@ ghost use Rattle.rows.specs.Bytes.{u16At};
 ghost use Rattle.rules.specs.Sets.{if_then_else_};
 ghost use Rattle.rules.specs.State.{relayAt};
 ghost use Rattle.rules.specs.Steps.{aliveIn};
-ghost use Rattle.rules.specs.Image.{worldAt, goodBytes, generatorAt};
+ghost use Rattle.layout.specs.Image.{worldAt, goodBytes, generatorAt};
 ghost use Rattle.state.specs.Meaning.{partOf, generatorOf};
 ghost use Rattle.locality.specs.Narrow.{move, narrow, widened};
 ghost use Rattle.world.specs.Commits.{First, rowOf, freeRow, TakenTo, freeRows, endsView, endsMove, receiversBelow};

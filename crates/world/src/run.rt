@@ -7,7 +7,7 @@ ghost use lib.ListN.{length, getD};
 ghost use Rattle.rules.specs.State.{World, start};
 ghost use Rattle.rules.specs.Sending.{waitingIn};
 ghost use Rattle.rules.specs.WellFormed.{wellFormed};
-ghost use Rattle.rules.specs.Image.{image, worldAt, goodBytes};
+ghost use Rattle.layout.specs.Image.{image, worldAt, goodBytes};
 ghost use Rattle.rules.specs.Sheets.{badSheet};
 ghost use Rattle.rules.specs.Runs.{fields, lastWorld, printed, endOf};
 ghost use Rattle.sheet.specs.Reading.{stepsFrom};

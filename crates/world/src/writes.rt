@@ -10,7 +10,7 @@ ghost use Rattle.rules.specs.Messages.{copies};
 ghost use Rattle.rules.specs.State.{World, withPlaces, relayAt, withRelay, withTransfers};
 ghost use Rattle.rules.specs.Sending as rules;
 ghost use Rattle.rules.specs.Relays.{freshTransfer};
-ghost use Rattle.rules.specs.Image.{transferBytes, image, worldAt, goodBytes};
+ghost use Rattle.layout.specs.Image.{transferBytes, image, worldAt, goodBytes};
 ghost use Rattle.state.specs.Meaning.{transferOf, partOf, bodyOf, sendingOf};
 ghost use Rattle.locality.specs.Narrow.{widened};
 ghost use Rattle.world.specs.Commits.{TakenTo, freedAt, keptRows, message};

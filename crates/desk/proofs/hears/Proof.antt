@@ -5,7 +5,7 @@ use Prim.Native.Nat.{_<_}
 use borrow.Author.Tests.{not-true, not-false, lt-ltb}
 use Rattle.views.proofs.Sets.{member-lt}
 use Rattle.rules.specs.Desks.{current, viewCame, pairCame, ackCame, deskHears}
-use Rattle.rules.specs.Image.{bodyIn}
+use Rattle.layout.specs.Image.{bodyIn}
 use Rattle.rules.proofs.Desks.{current-member}
 use Rattle.state.specs.Meaning.{bodyOf}
 use Rattle.desk.specs.Replies.{replyNoted}

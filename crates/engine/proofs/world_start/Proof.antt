@@ -1,7 +1,7 @@
 -- `engine::world_start` meets its contract. Assumes nothing.
 use mathlib.Core.Path.{ap}
 use borrow.Author.Needs.{needs}
-use Rattle.rules.specs.Lent.{Lent}
+use Rattle.layout.specs.Lent.{Lent}
 use Rattle.world.specs.Answer.{lentOf}
 use Rattle.engine.proofs.world_start.Statement.{statement}
 use Rattle.engine.proofs.world_start.Tie as tie

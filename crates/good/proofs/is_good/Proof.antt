@@ -3,7 +3,7 @@ use mathlib.Core.Path.{_∙_, _≡_, sym}
 use mathlib.Core.Bool.{true}
 use Prim.Native.Nat.{_*_, _+_}
 use Rattle.rows.specs.Tests.{all}
-use Rattle.rules.specs.Image.{goodBytes}
+use Rattle.layout.specs.Image.{goodBytes}
 use Rattle.good.specs.Rows.{deskGood, relayGood, rowsGood}
 use Rattle.good.proofs.Tests.{both-fail, both-pass, no, yes}
 use Rattle.good.proofs.World.{bytes-good, other-length}

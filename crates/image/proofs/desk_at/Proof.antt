@@ -1,6 +1,6 @@
 -- `image::desk_at` meets its contract. Assumes nothing.
 use borrow.Author.Needs.{needs}
-use Rattle.rules.specs.Image.{deskAt}
+use Rattle.layout.specs.Image.{deskAt}
 use Rattle.image.proofs.Ends.{alike-end, desk-alike}
 use Rattle.image.proofs.desk_at.Statement.{statement}
 use Rattle.image.proofs.desk_at.Tie as tie

@@ -1,6 +1,6 @@
 -- `image::pair_at` meets its contract. Assumes nothing.
 use borrow.Author.Needs.{needs}
-use Rattle.rules.specs.Image.{pairAt}
+use Rattle.layout.specs.Image.{pairAt}
 use Rattle.image.proofs.Ends.{alike-end, pair-alike}
 use Rattle.image.proofs.pair_at.Statement.{statement}
 use Rattle.image.proofs.pair_at.Tie as tie

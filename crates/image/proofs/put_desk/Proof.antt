@@ -4,7 +4,7 @@ use mir.Syntax.{w8}
 use mir.Val.{Fits}
 use borrow.Author.Needs.{needs}
 use Rattle.rows.proofs.Numbers.{byte-number}
-use Rattle.rules.specs.Image.{byte, deskBytes}
+use Rattle.layout.specs.Image.{byte, deskBytes}
 use Rattle.image.proofs.Fields.{flag-number, blank, piece, pair, laid}
 use Rattle.image.proofs.put_desk.Statement.{statement}
 use Rattle.image.proofs.put_desk.Tie as tie

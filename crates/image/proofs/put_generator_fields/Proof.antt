@@ -7,7 +7,7 @@ use Rattle.rows.specs.Bytes.{cat}
 use Rattle.rows.proofs.Laws.{put-first, put-then}
 use Rattle.rows.proofs.Numbers.{length-be16}
 use Rattle.rows.proofs.Tables.{length-zeros}
-use Rattle.rules.specs.Image.{generatorBytes}
+use Rattle.layout.specs.Image.{generatorBytes}
 use Rattle.state.specs.Meaning.{notesOf, generatorOf}
 use Rattle.image.specs.Parts.{notesBytes}
 use Rattle.image.proofs.Widths.{length-notes, length-sequence}

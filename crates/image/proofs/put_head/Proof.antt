@@ -1,7 +1,7 @@
 -- `image::put_head` meets its contract. Assumes nothing.
 use mathlib.Core.Path.{refl}
 use borrow.Author.Needs.{needs}
-use Rattle.rules.specs.Image.{headBytes}
+use Rattle.layout.specs.Image.{headBytes}
 use Rattle.state.specs.Meaning.{relayOf}
 use Rattle.image.proofs.Fields.{flag-number, blank, piece, pair, laid}
 use Rattle.image.proofs.put_head.Statement.{statement}

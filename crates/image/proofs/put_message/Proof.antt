@@ -6,8 +6,8 @@ use lib.ListN.{length}
 use borrow.Author.Needs.{needs}
 use Rattle.rows.proofs.Laws.{room, no-room}
 use Rattle.rows.proofs.Numbers.{byte-number}
-use Rattle.rules.specs.Image.{rowBytes}
-use Rattle.rules.proofs.ImageWidths.{length-row}
+use Rattle.layout.specs.Image.{rowBytes}
+use Rattle.layout.proofs.Widths.{length-row}
 use Rattle.image.specs.Parts.{messageRow}
 use Rattle.image.proofs.Fields.{none, blank, piece, pair, laid-around, around}
 use Rattle.image.proofs.put_message.Statement.{statement}

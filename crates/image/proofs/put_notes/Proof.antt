@@ -6,7 +6,7 @@ use lib.ListN.{length, getD}
 use borrow.Author.Needs.{needs}
 use Rattle.rows.proofs.Laws.{room, no-room, Wrote, wrote-none, wrote-more, wrote-all}
 use Rattle.views.specs.Row.{viewsOf}
-use Rattle.rules.specs.Image.{sequenceBytes}
+use Rattle.layout.specs.Image.{sequenceBytes}
 use Rattle.state.specs.Meaning.{notesOf}
 use Rattle.image.specs.Parts.{notesBytes}
 use Rattle.image.proofs.Parts.{note-at}

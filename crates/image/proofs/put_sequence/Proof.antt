@@ -9,8 +9,8 @@ use Rattle.rows.specs.Bytes.{placed, be16, zeros}
 use Rattle.rows.proofs.Laws.{room, no-room, put-first, put-then, Wrote, wrote-none, wrote-more, wrote-all}
 use Rattle.rows.proofs.Numbers.{length-be16}
 use Rattle.views.specs.Row.{viewsOf}
-use Rattle.rules.specs.Image.{sequenceBytes}
-use Rattle.rules.proofs.ImageZeros.{sequence-zeros}
+use Rattle.layout.specs.Image.{sequenceBytes}
+use Rattle.layout.proofs.Zeros.{sequence-zeros}
 use Rattle.image.proofs.Widths.{length-views, length-sequence}
 use Rattle.image.proofs.put_sequence.Statement.{statement}
 use Rattle.image.proofs.put_sequence.Tie as tie

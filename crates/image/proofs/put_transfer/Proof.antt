@@ -6,8 +6,8 @@ use lib.ListN.{length}
 use borrow.Author.Needs.{needs}
 use Rattle.rows.proofs.Laws.{room, no-room}
 use Rattle.rows.proofs.Numbers.{byte-number}
-use Rattle.rules.specs.Image.{transferBytes}
-use Rattle.rules.proofs.ImageWidths.{length-transfer}
+use Rattle.layout.specs.Image.{transferBytes}
+use Rattle.layout.proofs.Widths.{length-transfer}
 use Rattle.state.specs.Meaning.{transferOf}
 use Rattle.image.proofs.Fields.{none, blank, piece, pair, laid-around, around}
 use Rattle.image.proofs.put_transfer.Statement.{statement}

@@ -1,7 +1,7 @@
 -- `messages::plain` meets its contract. Assumes nothing.
 use mathlib.Core.Path.{_∙_}
 use borrow.Author.Tests.{ne-eqb}
-use Rattle.rules.specs.Image.{bodyIn}
+use Rattle.layout.specs.Image.{bodyIn}
 use Rattle.state.specs.Meaning.{bodyOf}
 use Rattle.messages.specs.Made.{madeWith}
 use Rattle.messages.proofs.plain.Statement.{statement}

@@ -2,7 +2,7 @@
 use mathlib.Core.Path.{sym, ap, _∙_}
 use lib.Dec.{eqb}
 use borrow.Author.Tests.{ne-eqb}
-use Rattle.rules.specs.Image.{bodyIn}
+use Rattle.layout.specs.Image.{bodyIn}
 use Rattle.rules.specs.State.{noRelay}
 use Rattle.rules.specs.Relays.{relayHears}
 use Rattle.state.specs.Meaning.{partOf, bodyOf}

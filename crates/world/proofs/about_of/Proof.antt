@@ -3,7 +3,7 @@ use mathlib.Core.Path.{refl}
 use mathlib.Core.Logic.{⊎-elim}
 use borrow.Author.Tests.{eqb-true}
 use Rattle.views.proofs.Truth.{either-true}
-use Rattle.rules.specs.Image.{bodyIn}
+use Rattle.layout.specs.Image.{bodyIn}
 use Rattle.state.specs.Meaning.{bodyOf}
 use Rattle.world.proofs.Routes.{about-none}
 use Rattle.world.proofs.about_of.Statement.{statement}

@@ -7,8 +7,8 @@ use Rattle.rules.specs.Messages.{dead}
 use Rattle.rules.specs.State.{waiting, placeAt}
 use Rattle.rules.specs.Steps.{acts, freed, delivers}
 use Rattle.rules.specs.Steps as steps
-use Rattle.rules.specs.Image.{worldAt}
-use Rattle.rules.specs.Lent.{left}
+use Rattle.layout.specs.Image.{worldAt}
+use Rattle.layout.specs.Lent.{left}
 use Rattle.state.specs.Meaning.{messageOf}
 use Rattle.image.proofs.Meaning.{message-read}
 use Rattle.world.proofs.Routes.{place-holds, held-good, held-dead, held-alive, to-below}

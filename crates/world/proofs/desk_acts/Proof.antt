@@ -3,7 +3,7 @@ use mathlib.Core.Path.{_≡_, sym, ap, _∙_}
 use borrow.Author.Needs.{needs}
 use Rattle.rules.specs.State.{noDesk, deskAt}
 use Rattle.rules.specs.declared.Desk.{Desk}
-use Rattle.rules.specs.Image.{worldAt}
+use Rattle.layout.specs.Image.{worldAt}
 use Rattle.state.specs.Plans.{planned}
 use Rattle.locality.specs.Asked.{deskAsked}
 use Rattle.locality.proofs.Few.{desk-asked-few}

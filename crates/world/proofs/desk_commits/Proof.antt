@@ -6,7 +6,7 @@ use borrow.Author.Tests.{not-true, not-false}
 use Rattle.rules.specs.Messages.{no-room}
 use Rattle.rules.specs.State.{noDesk, withDesk}
 use Rattle.rules.specs.Steps.{deskDoes}
-use Rattle.rules.specs.Image.{worldAt}
+use Rattle.layout.specs.Image.{worldAt}
 use Rattle.state.specs.Meaning.{sendingOf}
 use Rattle.state.specs.Plans.{deskPlanOf}
 use Rattle.world.specs.Commits.{deskLeft}

@@ -4,8 +4,8 @@ use Prim.Native.Nat.{_<_}
 use borrow.Author.Needs.{needs}
 use borrow.Author.Tests.{eq-eqb, ne-eqb}
 use Rattle.rules.specs.Messages.{empty}
-use Rattle.rules.specs.Image.{worldAt}
-use Rattle.rules.proofs.ImageWorld.{good-image}
+use Rattle.layout.specs.Image.{worldAt}
+use Rattle.layout.proofs.World.{good-image}
 use Rattle.state.specs.Meaning.{eventOf}
 use Rattle.world.proofs.Good.{shaped}
 use Rattle.world.proofs.Routes.{empty-left, drop-left}

@@ -2,7 +2,7 @@
 use mathlib.Core.Path.{_≡_, ap, _∙_}
 use borrow.Author.Needs.{needs}
 use Rattle.rules.specs.State.{Relay, noRelay, relayAt}
-use Rattle.rules.specs.Image.{worldAt}
+use Rattle.layout.specs.Image.{worldAt}
 use Rattle.state.specs.Meaning.{partOf}
 use Rattle.state.specs.Plans.{planned}
 use Rattle.locality.specs.Narrow.{move, narrow}

@@ -6,7 +6,7 @@ use borrow.Author.Tests.{not-true, not-false}
 use Rattle.rules.specs.Messages.{no-room}
 use Rattle.rules.specs.State.{noRelay, withRelay, relayAt}
 use Rattle.rules.specs.Steps.{relayDoes}
-use Rattle.rules.specs.Image.{worldAt}
+use Rattle.layout.specs.Image.{worldAt}
 use Rattle.state.specs.Meaning.{partOf, sendingOf}
 use Rattle.state.specs.Plans.{planOf}
 use Rattle.locality.specs.Narrow.{widened}

@@ -6,8 +6,8 @@ use native.Mathlib.Omega.{arith}
 use borrow.Author.Needs.{needs}
 use borrow.Author.Tests.{eq-eqb, ne-eqb, lt-ltb, le-ltb, not-true, not-false}
 use Rattle.rules.specs.Messages.{bad-step, dead}
-use Rattle.rules.specs.Image.{worldAt, goodBytes}
-use Rattle.rules.specs.Lent.{left, lentStep}
+use Rattle.layout.specs.Image.{worldAt, goodBytes}
+use Rattle.layout.specs.Lent.{left, lentStep}
 use Rattle.world.proofs.Routes.{doing, routed, step-left, bad-left, told-valued, told-place, acted, dead-left, alive-left}
 use Rattle.world.proofs.step_good.Statement.{statement}
 use Rattle.world.proofs.step_good.Tie as tie

@@ -6,7 +6,7 @@ use borrow.Author.Needs.{needs}
 use Rattle.rules.specs.State.{noDesk, deskAt}
 use Rattle.rules.specs.declared.Desk.{Desk}
 use Rattle.rules.specs.Desks.{deskHears}
-use Rattle.rules.specs.Image.{worldAt}
+use Rattle.layout.specs.Image.{worldAt}
 use Rattle.state.specs.Meaning.{bodyOf, messageOf}
 use Rattle.state.specs.Plans.{planned}
 use Rattle.locality.proofs.Few.{desk-few}

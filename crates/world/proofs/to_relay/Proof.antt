@@ -3,7 +3,7 @@ use mathlib.Core.Path.{refl, ap, _∙_}
 use borrow.Author.Needs.{needs}
 use Rattle.rules.specs.State.{noRelay, relayAt}
 use Rattle.rules.specs.Relays.{relayHears}
-use Rattle.rules.specs.Image.{worldAt}
+use Rattle.layout.specs.Image.{worldAt}
 use Rattle.state.specs.Meaning.{bodyOf, messageOf}
 use Rattle.state.specs.Plans.{planned}
 use Rattle.locality.specs.Narrow.{generatorOfBody, moveOfBody, narrow}

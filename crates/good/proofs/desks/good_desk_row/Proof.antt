@@ -1,6 +1,6 @@
 -- `good::desks::good_desk_row` meets its contract: what was read is written to a row of its own, which is then what was read, in bytes. Assumes nothing.
 use borrow.Author.Needs.{needs}
-use Rattle.rules.specs.Image.{deskBytes}
+use Rattle.layout.specs.Image.{deskBytes}
 use Rattle.rules.specs.WellFormed.{goodDesk}
 use Rattle.image.proofs.Widths.{length-desk}
 use Rattle.good.specs.Rows.{deskGood}

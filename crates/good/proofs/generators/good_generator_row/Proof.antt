@@ -1,6 +1,6 @@
 -- `good::generators::good_generator_row` meets its contract: what was read is written to a row of its own, which is then what was read, in bytes. Assumes nothing.
 use borrow.Author.Needs.{needs}
-use Rattle.rules.specs.Image.{generatorBytes}
+use Rattle.layout.specs.Image.{generatorBytes}
 use Rattle.rules.specs.WellFormed.{goodGenerator}
 use Rattle.image.proofs.Widths.{length-generator}
 use Rattle.image.proofs.Meaning.{generator-read}

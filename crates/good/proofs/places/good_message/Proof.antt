@@ -1,6 +1,6 @@
 -- `good::places::good_message` meets its contract. Assumes nothing.
 use borrow.Author.Tests.{ne-eqb}
-use Rattle.rules.specs.Image.{bodyIn}
+use Rattle.layout.specs.Image.{bodyIn}
 use Rattle.state.specs.Meaning.{bodyOf, messageOf}
 use Rattle.good.proofs.places.good_message.Statement.{statement}
 use Rattle.good.proofs.places.good_message.Tie as tie

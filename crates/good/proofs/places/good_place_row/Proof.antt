@@ -3,7 +3,7 @@ use mathlib.Core.Path.{_∙_, _≡_, ap, sym}
 use Prim.Native.Nat.{_≤_}
 use native.Mathlib.Omega.{arith}
 use borrow.Author.Needs.{needs}
-use Rattle.rules.specs.Image.{placeBytes, placeIn, rowAt}
+use Rattle.layout.specs.Image.{placeBytes, placeIn, rowAt}
 use Rattle.rules.specs.WellFormed.{goodPlace}
 use Rattle.rules.specs.State.{waiting}
 use Rattle.state.specs.Meaning.{messageOf}

@@ -2,7 +2,7 @@
 use mathlib.Core.Path.{ap}
 use mathlib.Core.List.{[]}
 use borrow.Author.Needs.{needs}
-use Rattle.rules.specs.Image.{headBytes}
+use Rattle.layout.specs.Image.{headBytes}
 use Rattle.rules.specs.WellFormed.{goodRelay}
 use Rattle.state.specs.Meaning.{relayOf}
 use Rattle.image.proofs.Widths.{length-head}

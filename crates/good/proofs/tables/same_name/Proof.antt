@@ -4,7 +4,7 @@ use mathlib.Core.Path.{_∙_, ap, sym, ap₂}
 use lib.Dec.{eqb}
 use borrow.Author.Needs.{needs}
 use borrow.Author.Tests.{eq-eqb, ne-eqb}
-use Rattle.rules.specs.Image.{generatorAt, transferAt}
+use Rattle.layout.specs.Image.{generatorAt, transferAt}
 use Rattle.good.specs.Rows.{otherRow}
 use Rattle.good.proofs.Tests.{both-fail, both-pass}
 use Rattle.good.proofs.tables.same_name.Statement.{statement}

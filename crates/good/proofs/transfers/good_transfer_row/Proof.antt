@@ -1,6 +1,6 @@
 -- `good::transfers::good_transfer_row` meets its contract: what was read is written to a row of its own, which is then what was read, in bytes. Assumes nothing.
 use borrow.Author.Needs.{needs}
-use Rattle.rules.specs.Image.{transferBytes}
+use Rattle.layout.specs.Image.{transferBytes}
 use Rattle.rules.specs.WellFormed.{goodTransfer}
 use Rattle.image.proofs.Widths.{length-transfer}
 use Rattle.image.proofs.Meaning.{transfer-read}

@@ -3,7 +3,7 @@ use Prim.Native.Nat.{_≤_, _<_}
 use native.Mathlib.Omega.{arith}
 use lib.ListN.{length}
 use borrow.Author.Needs.{needs}
-use Rattle.rules.specs.Image.{worldAt}
+use Rattle.layout.specs.Image.{worldAt}
 use Rattle.rules.proofs.Counts.{run-few}
 use Rattle.sheet.specs.Reading.{stepsFrom}
 use Rattle.record.specs.Lines.{far}

@@ -1,6 +1,6 @@
 -- `world::run::turn` meets its contract. Assumes nothing.
 use borrow.Author.Needs.{needs}
-use Rattle.rules.specs.Image.{worldAt}
+use Rattle.layout.specs.Image.{worldAt}
 use Rattle.world.proofs.Playing.{step-answered, turned}
 use Rattle.world.proofs.run.turn.Statement.{statement}
 use Rattle.world.proofs.run.turn.Tie as tie

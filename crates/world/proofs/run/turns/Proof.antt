@@ -5,9 +5,9 @@ use Prim.Native.Nat.{_≤_}
 use native.Mathlib.Omega.{arith}
 use lib.ListN.{length}
 use borrow.Author.Needs.{needs}
-use Rattle.rules.specs.Image.{worldAt}
+use Rattle.layout.specs.Image.{worldAt}
 use Rattle.rules.proofs.Counts.{step-even}
-use Rattle.rules.proofs.ImageWorld.{good-length}
+use Rattle.layout.proofs.World.{good-length}
 use Rattle.sheet.specs.Reading.{stepsFrom}
 use Rattle.sheet.proofs.Walk.{taken-step, taken-end}
 use Rattle.world.proofs.Playing.{Running, running-none, running-more, running-all, few, shown-few}

@@ -7,7 +7,7 @@ use native.Mathlib.Omega.{arith}
 use borrow.Author.Needs.{needs}
 use Rattle.rules.specs.Sets.{inside}
 use Rattle.rules.specs.State.{Transfer}
-use Rattle.rules.specs.Image.{transferAt}
+use Rattle.layout.specs.Image.{transferAt}
 use Rattle.state.specs.Meaning.{transferOf}
 use Rattle.rules.proofs.Lists.{map-set}
 use Rattle.image.proofs.Meaning.{transfer-read}

@@ -6,8 +6,8 @@ use lib.ListN.{getD}
 use borrow.Author.Needs.{needs}
 use Rattle.rows.proofs.Laws.{Wrote, wrote-none, wrote-more, wrote-all}
 use Rattle.rules.specs.Relays.{freshTransfer}
-use Rattle.rules.specs.Image.{transferBytes}
-use Rattle.rules.proofs.ImageWidths.{length-transfer}
+use Rattle.layout.specs.Image.{transferBytes}
+use Rattle.layout.proofs.Widths.{length-transfer}
 use Rattle.state.specs.Meaning.{transferOf}
 use Rattle.world.proofs.Kept.{kept-at}
 use Rattle.world.proofs.writes.put_kept.Statement.{statement}

@@ -3,7 +3,7 @@ use mathlib.Core.Path.{ap, _∙_}
 use borrow.Author.Needs.{needs}
 use borrow.Author.Tests.{not-true, not-false, ltb-true}
 use Rattle.rules.specs.State.{Relay, withRelay}
-use Rattle.rules.specs.Image.{image, worldAt}
+use Rattle.layout.specs.Image.{image, worldAt}
 use Rattle.world.proofs.Put.{head-written, none-written, some-written, seated-some}
 use Rattle.world.proofs.writes.put_part.Statement.{statement}
 use Rattle.world.proofs.writes.put_part.Tie as tie

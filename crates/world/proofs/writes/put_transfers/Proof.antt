@@ -6,7 +6,7 @@ use lib.ListN.{length}
 use borrow.Author.Needs.{needs}
 use borrow.Author.Tests.{not-true, not-false, ltb-true}
 use Rattle.rows.proofs.Laws.{placed-length}
-use Rattle.rules.proofs.ImageWorld.{good-length}
+use Rattle.layout.proofs.World.{good-length}
 use Rattle.state.specs.Meaning.{transferOf}
 use Rattle.world.proofs.Put.{moved-written, stays-written, moves-written, moves-seated}
 use Rattle.world.proofs.writes.put_transfers.Statement.{statement}

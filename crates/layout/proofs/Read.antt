@@ -6,14 +6,14 @@ use native.Mathlib.Nat.{zero-add}
 use lib.ListN.{getD}
 use Rattle.rows.proofs.Laws.{Holds}
 use Rattle.rows.proofs.Tables.{table-holds}
 use Rattle.rules.specs.State.{Relay, noRelay, noDesk, free, World}
 use Rattle.rules.specs.State as state
 use Rattle.rules.specs.Generators.{fresh}
 use Rattle.rules.specs.Relays.{freshTransfer}
-use Rattle.rules.specs.Image.{generatorBytes, transferBytes, relayBytes, deskBytes, placeBytes, image, generatorAt, transferAt}
-use Rattle.rules.proofs.ImageWidths.{length-generator, length-transfer, length-relay, length-desk, length-place}
-use Rattle.rules.proofs.ImageRows.{generator-back, transfer-back, holds-generators, holds-transfers}
-use Rattle.rules.proofs.ImageWorld.{WorldFits, holds-relays, holds-desks, holds-places}
+use Rattle.layout.specs.Image.{generatorBytes, transferBytes, relayBytes, deskBytes, placeBytes, image, generatorAt, transferAt}
+use Rattle.layout.proofs.Widths.{length-generator, length-transfer, length-relay, length-desk, length-place}
+use Rattle.layout.proofs.Rows.{generator-back, transfer-back, holds-generators, holds-transfers}
+use Rattle.layout.proofs.World.{WorldFits, holds-relays, holds-desks, holds-places}
 
 -- ---- in a relay's region, wherever it stands
 

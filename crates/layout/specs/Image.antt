@@ -1,27 +1,27 @@
--- "One lent buffer of exactly 65,536 bytes. One state has one image: unused room is zero." Numbers are high byte first. Assumes nothing.
---
--- relay (5,440 bytes)      alive 1, entered 1, active 1, view 2, known 2, pending 2, stamp and value 7, zeros to 64; 8 generators; 8 transfers
--- generator (592)          view 2, own 31, converged 31, raised 31, 8 proposals of 31, 8 convergences of 31, a zero
--- transfer (80)            old view 2, new view 2, sequence 31, who has sent state 1, best stamp and value 7, updates gathered 2, zeros
--- desk (64)                alive 1, phase 1, view 2, try 2, stamp and value 7, who replied 1, best reply 7, agreed 1, zeros
--- message (80)             kind 1 (0: the place is free), sender 1, receiver 1, two views of 2, try 2, sequence 31, stamp and value 7, updates 2, zeros
--- sequence (31)            15 views of 2, how many 1
--- stamp and value (7)      count 2, desk 1, value 4
---
--- 8 relays, 4 desks, 256 messages, 1,280 zeros. A generator or transfer place that is not filled is zero.
+-- A state in bytes, and what bytes mean: "One state has one image: unused room is zero." Where a field stands is Layout. Assumes nothing.
 use mathlib.Core.Bool.{Bool, not}
 use mathlib.Core.List.{List, [], _∷_, _++_}
-use Prim.Native.Nat.{ℕ, _+_, _*_}
+use Prim.Native.Nat.{ℕ, _+_, _*_, _-_}
 use lib.Dec.{eqb, leb}
 use lib.ListN.{length, getD, take}
 use Rattle.rows.specs.Bytes.{be16, be32, u16At, u32At, run, tab, cat, table, zeros}
-use Rattle.rules.specs.Sets.{if_then_else_, _&&_, same, those}
+use Rattle.rules.specs.Sets.{if_then_else_, _&&_, same, those, viewCount, relayCount, deskCount, placeCount, seatCount}
 use Rattle.rules.specs.Stamps.{Pair, zeroPair}
 use Rattle.rules.specs.Messages.{Body, request, view, proposal, converged, install, state, get, put, viewReply, pairReply, ack}
-use Rattle.rules.specs.State.{Generator, Transfer, Relay, noRelay, Phase, Idle, Read1, Read2, Write1, Write2, Desk, noDesk, Place, free, waiting, World}
+use Rattle.rules.specs.State.{Generator, Transfer, Relay, noRelay, noDesk, Place, free, waiting, World}
+use Rattle.rules.specs.declared.Desk.{Desk}
+use Rattle.rules.specs.declared.Phase.{Phase}
+use Rattle.rules.specs.declared.Phase.the-variants.{Idle, Read1, Read2, Write1, Write2}
 use Rattle.rules.specs.Generators.{fresh}
 use Rattle.rules.specs.Relays.{freshTransfer}
 use Rattle.rules.specs.WellFormed.{wellFormed}
+use Rattle.layout.specs.Layout.{u16Width, sequenceCount, sequenceWidth, pairDesk, pairValue, headEntered, headActive, headView}
+use Rattle.layout.specs.Layout.{headKnown, headPending, headHolds, headZeros, headWidth, generatorOwn, generatorConverged}
+use Rattle.layout.specs.Layout.{generatorRaised, generatorProposals, generatorConvergences, generatorZeros, generatorWidth, transferNew}
+use Rattle.layout.specs.Layout.{transferSequence, transferSenders, transferBest, transferGathered, transferZeros, transferWidth, relayGenerators}
+use Rattle.layout.specs.Layout.{relayTransfers, relayWidth, deskPhase, deskView, deskTries, deskHolds, deskReplied, deskBest, deskAgreed}
+use Rattle.layout.specs.Layout.{deskZeros, deskWidth, messageFrom, messageTo, messageFirst, messageSecond, messageTries, messageSequence}
+use Rattle.layout.specs.Layout.{messagePair, messageUpdates, messageZeros, messageWidth, worldDesks, worldPlaces, worldZeros, worldWidth}
 
 -- ---- a state in bytes
 
@@ -32,7 +32,7 @@ abbrev pub byte : ℕ → List ℕ
 byte x = x ∷ []
 
 unfoldable pub sequenceBytes : List ℕ → List ℕ
-sequenceBytes q = run 15 (λ k. be16 (getD q k 0)) ++ byte (length q)
+sequenceBytes q = run viewCount (λ k. be16 (getD q k 0)) ++ byte (length q)
 
 abbrev pub pairFields : Pair → List (List ℕ)
 pairFields p = be16 (p .stamp .count) ∷ byte (p .stamp .desk) ∷ be32 (p .value) ∷ []
@@ -45,7 +45,7 @@ headFields r =
     flag (r .alive) ∷ flag (r .entered) ∷ flag (r .active)
     ∷ be16 (r .view) ∷ be16 (r .known) ∷ be16 (r .pending)
     ∷ pairBytes (r .holds)
-    ∷ zeros 48
+    ∷ zeros (headWidth - headZeros)
     ∷ []
 
 unfoldable pub headBytes : Relay → List ℕ
@@ -55,8 +55,8 @@ abbrev pub generatorFields : Generator → List (List ℕ)
 generatorFields g =
     be16 (g .view)
     ∷ sequenceBytes (g .own) ∷ sequenceBytes (g .converged) ∷ sequenceBytes (g .raised)
-    ∷ table sequenceBytes [] 8 (g .proposals) ∷ table sequenceBytes [] 8 (g .convergences)
-    ∷ zeros 1
+    ∷ table sequenceBytes [] relayCount (g .proposals) ∷ table sequenceBytes [] relayCount (g .convergences)
+    ∷ zeros (generatorWidth - generatorZeros)
     ∷ []
 
 unfoldable pub generatorBytes : Generator → List ℕ
@@ -69,7 +69,7 @@ transferFields t =
     ∷ byte (t .senders)
     ∷ pairBytes (t .best)
     ∷ be16 (t .gathered)
-    ∷ zeros 35
+    ∷ zeros (transferWidth - transferZeros)
     ∷ []
 
 unfoldable pub transferBytes : Transfer → List ℕ
@@ -78,8 +78,8 @@ transferBytes t = cat (transferFields t)
 abbrev pub relayFields : Relay → List (List ℕ)
 relayFields r =
     headBytes r
-    ∷ table generatorBytes (fresh 0) 8 (r .generators)
-    ∷ table transferBytes (freshTransfer 0 0) 8 (r .transfers)
+    ∷ table generatorBytes (fresh 0) seatCount (r .generators)
+    ∷ table transferBytes (freshTransfer 0 0) seatCount (r .transfers)
     ∷ []
 
 unfoldable pub relayBytes : Relay → List ℕ
@@ -101,7 +101,7 @@ deskFields d =
     ∷ byte (d .replied)
     ∷ pairBytes (d .best)
     ∷ flag (d .agreed)
-    ∷ zeros 42
+    ∷ zeros (deskWidth - deskZeros)
     ∷ []
 
 unfoldable pub deskBytes : Desk → List ℕ
@@ -147,7 +147,7 @@ rowFields m =
     ∷ sequenceBytes (m .sequence)
     ∷ pairBytes (m .pair)
     ∷ be16 (m .updates)
-    ∷ zeros 31
+    ∷ zeros (messageWidth - messageZeros)
     ∷ []
 
 unfoldable pub rowBytes : Row → List ℕ
@@ -158,46 +158,46 @@ placeBytes p = rowBytes (placeRow p)
 
 abbrev pub worldTables : World → List (List ℕ)
 worldTables w =
-    table relayBytes noRelay 8 (w .relays)
-    ∷ table deskBytes noDesk 4 (w .desks)
-    ∷ table placeBytes free 256 (w .places)
-    ∷ zeros 1280
+    table relayBytes noRelay relayCount (w .relays)
+    ∷ table deskBytes noDesk deskCount (w .desks)
+    ∷ table placeBytes free placeCount (w .places)
+    ∷ zeros (worldWidth - worldZeros)
     ∷ []
 
 unfoldable pub image : World → List ℕ
 image w = cat (worldTables w)
 
--- ---- what bytes mean, whatever they are: read from index i on
+-- ---- what bytes mean, whatever they are: read from index i on, where the first field stands
 
 abbrev pub flagAt : List ℕ → ℕ → Bool
 flagAt b i = eqb (getD b i 0) 1
 
 unfoldable pub sequenceAt : List ℕ → ℕ → List ℕ
-sequenceAt b i = take (getD b (i + 30) 0) (tab 15 (λ k. u16At b (i + 2 * k)))
+sequenceAt b i = take (getD b (i + sequenceCount) 0) (tab viewCount (λ k. u16At b (i + u16Width * k)))
 
 unfoldable pub pairAt : List ℕ → ℕ → Pair
-pairAt b i = record { stamp = record { count = u16At b i; desk = getD b (i + 2) 0 }; value = u32At b (i + 3) }
+pairAt b i = record { stamp = record { count = u16At b i; desk = getD b (i + pairDesk) 0 }; value = u32At b (i + pairValue) }
 
 unfoldable pub generatorAt : List ℕ → ℕ → Generator
 generatorAt b i =
     record {
       view = u16At b i;
-      own = sequenceAt b (i + 2);
-      converged = sequenceAt b (i + 33);
-      raised = sequenceAt b (i + 64);
-      proposals = tab 8 (λ k. sequenceAt b (i + 95 + k * 31));
-      convergences = tab 8 (λ k. sequenceAt b (i + 343 + k * 31));
+      own = sequenceAt b (i + generatorOwn);
+      converged = sequenceAt b (i + generatorConverged);
+      raised = sequenceAt b (i + generatorRaised);
+      proposals = tab relayCount (λ k. sequenceAt b (i + generatorProposals + k * sequenceWidth));
+      convergences = tab relayCount (λ k. sequenceAt b (i + generatorConvergences + k * sequenceWidth));
     }
 
 unfoldable pub transferAt : List ℕ → ℕ → Transfer
 transferAt b i =
     record {
       old = u16At b i;
-      new = u16At b (i + 2);
-      sequence = sequenceAt b (i + 4);
-      senders = getD b (i + 35) 0;
-      best = pairAt b (i + 36);
-      gathered = u16At b (i + 43);
+      new = u16At b (i + transferNew);
+      sequence = sequenceAt b (i + transferSequence);
+      senders = getD b (i + transferSenders) 0;
+      best = pairAt b (i + transferBest);
+      gathered = u16At b (i + transferGathered);
     }
 
 -- a place is filled where its view, or its new view, is not 0
@@ -211,14 +211,14 @@ unfoldable pub relayAt : List ℕ → ℕ → Relay
 relayAt b i =
     record {
       alive = flagAt b i;
-      view = u16At b (i + 3);
-      entered = flagAt b (i + 1);
-      active = flagAt b (i + 2);
-      known = u16At b (i + 5);
-      pending = u16At b (i + 7);
-      holds = pairAt b (i + 9);
-      generators = those filledGenerator (tab 8 (λ k. generatorAt b (i + 64 + k * 592)));
-      transfers = those filledTransfer (tab 8 (λ k. transferAt b (i + 4800 + k * 80)));
+      view = u16At b (i + headView);
+      entered = flagAt b (i + headEntered);
+      active = flagAt b (i + headActive);
+      known = u16At b (i + headKnown);
+      pending = u16At b (i + headPending);
+      holds = pairAt b (i + headHolds);
+      generators = those filledGenerator (tab seatCount (λ k. generatorAt b (i + relayGenerators + k * generatorWidth)));
+      transfers = those filledTransfer (tab seatCount (λ k. transferAt b (i + relayTransfers + k * transferWidth)));
     }
 
 abbrev pub phaseOf : ℕ → Phase
@@ -228,20 +228,20 @@ unfoldable pub deskAt : List ℕ → ℕ → Desk
 deskAt b i =
     record {
       alive = flagAt b i;
-      view = u16At b (i + 2);
-      phase = phaseOf (getD b (i + 1) 0);
-      tries = u16At b (i + 4);
-      holds = pairAt b (i + 6);
-      replied = getD b (i + 13) 0;
-      best = pairAt b (i + 14);
-      agreed = flagAt b (i + 21);
+      view = u16At b (i + deskView);
+      phase = phaseOf (getD b (i + deskPhase) 0);
+      tries = u16At b (i + deskTries);
+      holds = pairAt b (i + deskHolds);
+      replied = getD b (i + deskReplied) 0;
+      best = pairAt b (i + deskBest);
+      agreed = flagAt b (i + deskAgreed);
     }
 
 unfoldable pub rowAt : List ℕ → ℕ → Row
 rowAt b i =
-    row (getD b i 0) (getD b (i + 1) 0) (getD b (i + 2) 0)
-    (u16At b (i + 3)) (u16At b (i + 5)) (u16At b (i + 7))
-    (sequenceAt b (i + 9)) (pairAt b (i + 40)) (u16At b (i + 47))
+    row (getD b i 0) (getD b (i + messageFrom) 0) (getD b (i + messageTo) 0)
+    (u16At b (i + messageFirst)) (u16At b (i + messageSecond)) (u16At b (i + messageTries))
+    (sequenceAt b (i + messageSequence)) (pairAt b (i + messagePair)) (u16At b (i + messageUpdates))
 
 -- what a row of a kind 7 to 11 says: those have a try
 abbrev pub tryIn : Row → Body
@@ -272,13 +272,13 @@ placeIn m =
 unfoldable pub worldAt : List ℕ → World
 worldAt b =
     record {
-      relays = tab 8 (λ k. relayAt b (k * 5440));
-      desks = tab 4 (λ k. deskAt b (43520 + k * 64));
-      places = tab 256 (λ k. placeIn (rowAt b (43776 + k * 80)));
+      relays = tab relayCount (λ k. relayAt b (k * relayWidth));
+      desks = tab deskCount (λ k. deskAt b (worldDesks + k * deskWidth));
+      places = tab placeCount (λ k. placeIn (rowAt b (worldPlaces + k * messageWidth)));
     }
 
 -- ---- "A world is good exactly when its length is right, every field is in range, [..] and the rest is zero."
 -- The bytes are the image of a well-formed world: of the one that they mean.
 
 unfoldable pub goodBytes : List ℕ → Bool
-goodBytes b = eqb (length b) 65536 && (wellFormed (worldAt b) && same (image (worldAt b)) b)
+goodBytes b = eqb (length b) worldWidth && (wellFormed (worldAt b) && same (image (worldAt b)) b)

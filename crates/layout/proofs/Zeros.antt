@@ -8,12 +8,12 @@ use native.Mathlib.Omega.{arith}
 use lib.ListN.{getD, replicate}
 use Rattle.rows.specs.Bytes.{be16, run, cat, sum, table, zeros}
 use Rattle.rows.proofs.Numbers.{zeros-number}
 use Rattle.rules.specs.Stamps.{zeroPair}
 use Rattle.rules.specs.State.{noRelay, noDesk, free, World}
 use Rattle.rules.specs.Generators.{fresh}
 use Rattle.rules.specs.Relays.{freshTransfer}
-use Rattle.rules.specs.Image.{sequenceBytes, pairBytes, headBytes, generatorBytes, transferBytes, relayBytes, deskBytes, rowBytes, placeBytes, image}
-use Rattle.rules.proofs.ImageFits.{replicate-at}
+use Rattle.layout.specs.Image.{sequenceBytes, pairBytes, headBytes, generatorBytes, transferBytes, relayBytes, deskBytes, rowBytes, placeBytes, image}
+use Rattle.layout.proofs.Fits.{replicate-at}
 
 -- ---- zeros in pieces
 

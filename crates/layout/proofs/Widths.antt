@@ -9,11 +9,12 @@ use Rattle.rows.proofs.Laws.{length-run}
 use Rattle.rows.proofs.Numbers.{length-bytesOf}
 use Rattle.rows.proofs.Fields.{Widths, none, more, cat-length}
 use Rattle.rows.proofs.Tables.{table-length, length-zeros}
 use Rattle.rules.specs.Stamps.{Pair}
-use Rattle.rules.specs.State.{Generator, Transfer, Relay, noRelay, Desk, noDesk, Place, free, World}
+use Rattle.rules.specs.State.{Generator, Transfer, Relay, noRelay, noDesk, Place, free, World}
+use Rattle.rules.specs.declared.Desk.{Desk}
 use Rattle.rules.specs.Generators.{fresh}
 use Rattle.rules.specs.Relays.{freshTransfer}
-use Rattle.rules.specs.Image.{sequenceBytes, pairBytes, headBytes, generatorBytes, transferBytes, relayBytes, deskBytes, Row, placeRow, rowBytes, placeBytes, image, pairFields, headFields, generatorFields, transferFields, relayFields, deskFields, rowFields, worldTables}
+use Rattle.layout.specs.Image.{sequenceBytes, pairBytes, headBytes, generatorBytes, transferBytes, relayBytes, deskBytes, Row, placeRow, rowBytes, placeBytes, image, pairFields, headFields, generatorFields, transferFields, relayFields, deskFields, rowFields, worldTables}
 
 pub length-sequence : (q : List ℕ) → length (sequenceBytes q) ≡ 31
 unfolding sequenceBytes

@@ -13,15 +13,19 @@ use borrow.Author.Tests.{eqb-true, ltb-true, leb-true, ne-eqb}
 use Rattle.views.proofs.Truth.{either-true, contrary}
 use Rattle.views.proofs.Sets.{within-le, within-fact, inside-fact, inside-lt, members-lt, member-lt, member-not-empty}
 use Rattle.views.proofs.Nested.{Above, above-none, above-more, above-fact, above-fits}
 use Rattle.rules.specs.Sets.{_&&_, _||_, joins, leaves, member, members, within, above, none, all, allHold}
 use Rattle.rules.specs.Stamps.{Pair, zeroPair}
 use Rattle.rules.specs.Messages.{Body, request, view, proposal, converged, install, state, get, put, viewReply, pairReply, ack, Message}
-use Rattle.rules.specs.State.{Generator, Transfer, Relay, Phase, Idle, Read1, Read2, Write1, Write2, Desk, Place, free, waiting}
+use Rattle.rules.specs.State.{Generator, Transfer, Relay, Place, free, waiting}
+use Rattle.rules.specs.declared.Desk.{Desk}
+use Rattle.rules.specs.declared.Phase.{Phase}
+use Rattle.rules.specs.declared.Phase.the-variants.{Idle, Read1, Read2, Write1, Write2}
 use Rattle.rules.specs.Generators.{fresh}
 use Rattle.rules.specs.Relays.{freshTransfer}
 use Rattle.rules.specs.WellFormed.{isView, isStamp, isPair, isZeroPair, implies, allFrom, distinct, goodNote, goodNotes, goodGenerator, goodMove, goodInstalled, goodTransfer, otherView, otherMove, goodGenerators, goodTransfers, goodRelay, goodBest, noBest, goodPhase, goodDesk, isDesk, between, asked, replied, goodRequest, goodBody, goodPlace}
-use Rattle.rules.specs.Image.{filledGenerator, filledTransfer, Row, row, bodyRow, placeRow}
+use Rattle.layout.specs.Image.{filledGenerator, filledTransfer, Row, row, bodyRow, placeRow}
+use Rattle.rules.proofs.Serving.{update-small}
 use Rattle.rules.proofs.Hold.{hold-facts, from-at, all-parts}
 
 -- ---- what fits
 
@@ -272,12 +276,6 @@ desk-fits d e =
     record { view = ltb-true (d .view) 65536 (h .0); tries = ltb-true (d .tries) 65536 (h .1 .0); holds = p .0; replied = mask-fits (d .replied) (d .view) (h .1 .1 .0); best = p .1 }
 
 -- ---- a message
-
--- an update of a relay is a view
-pub update-small : (s u c : ℕ) → s < 8 → goodRequest s u c ≡ true → u < 65536
-update-small s u c h e =
-    ⊎-elim (λ k. rw (eqb-true u (joins s) (and-eq-true-iff (eqb u (joins s)) (not (within u c)) .0 k .0)) (pow-lt {i = s} {j = 16} (omega arith)))
-    (λ k. rw (eqb-true u (leaves s) (and-eq-true-iff (eqb u (leaves s)) (member c s) .0 k .0)) (pow-lt {i = 8 + s} {j = 16} (omega arith))) (either-true _ _ e)
 
 numbers-fit : {kind s r first second tries updates : ℕ} {q : List ℕ} {p : Pair}
     → kind < 256 → (s < 256) × (r < 256) → first < 65536 → second < 65536 → tries < 65536 → SequenceFits q → PairFits p → updates < 65536

@@ -14,16 +14,19 @@ use Rattle.rows.proofs.Laws.{Holds, holds-left, holds-right, holds-run, holds-b
 use Rattle.rows.proofs.Numbers.{length-bytesOf, holds-u16, holds-u32}
 use Rattle.rows.proofs.Fields.{cat-holds}
 use Rattle.rows.proofs.Tables.{table-holds, table-back}
 use Rattle.rules.specs.Sets.{if_then_else_, those}
 use Rattle.rules.specs.Stamps.{Pair}
 use Rattle.rules.specs.Messages.{Body, request, view, proposal, converged, install, state, get, put, viewReply, pairReply, ack}
-use Rattle.rules.specs.State.{Generator, Transfer, Relay, Phase, Idle, Read1, Read2, Write1, Write2, Desk, Place, free, waiting}
+use Rattle.rules.specs.State.{Generator, Transfer, Relay, Place, free, waiting}
+use Rattle.rules.specs.declared.Desk.{Desk}
+use Rattle.rules.specs.declared.Phase.{Phase}
+use Rattle.rules.specs.declared.Phase.the-variants.{Idle, Read1, Read2, Write1, Write2}
 use Rattle.rules.specs.Generators.{fresh}
 use Rattle.rules.specs.Relays.{freshTransfer}
-use Rattle.rules.specs.Image.{flag, byte, sequenceBytes, pairBytes, headBytes, generatorBytes, transferBytes, relayBytes, phaseNumber, deskBytes, Row, row, bodyRow, placeRow, rowBytes, placeBytes, flagAt, sequenceAt, pairAt, generatorAt, transferAt, filledGenerator, filledTransfer, relayAt, phaseOf, deskAt, rowAt, bodyIn, placeIn, pairFields, headFields, generatorFields, transferFields, relayFields, deskFields, rowFields}
+use Rattle.layout.specs.Image.{flag, byte, sequenceBytes, pairBytes, headBytes, generatorBytes, transferBytes, relayBytes, phaseNumber, deskBytes, Row, row, bodyRow, placeRow, rowBytes, placeBytes, flagAt, sequenceAt, pairAt, generatorAt, transferAt, filledGenerator, filledTransfer, relayAt, phaseOf, deskAt, rowAt, bodyIn, placeIn, pairFields, headFields, generatorFields, transferFields, relayFields, deskFields, rowFields}
 use Rattle.rules.proofs.Lists.{those-append}
-use Rattle.rules.proofs.ImageWidths.{length-sequence, pairWidths, pair-widths, headWidths, head-widths, generatorWidths, generator-widths, length-generator, transferWidths, transfer-widths, length-transfer, relayWidths, relay-widths, deskWidths, desk-widths, rowWidths, row-widths}
-use Rattle.rules.proofs.ImageFits.{SequenceFits, PairFits, NotesFit, GeneratorFits, TransferFits, RowsFit, RelayFits, DeskFits, RowFits}
+use Rattle.layout.proofs.Widths.{length-sequence, pairWidths, pair-widths, headWidths, head-widths, generatorWidths, generator-widths, length-generator, transferWidths, transfer-widths, length-transfer, relayWidths, relay-widths, deskWidths, desk-widths, rowWidths, row-widths}
+use Rattle.layout.proofs.Fits.{SequenceFits, PairFits, NotesFit, GeneratorFits, TransferFits, RowsFit, RelayFits, DeskFits, RowFits}
 
 -- ---- bytes, sequences, pairs
 

@@ -8,13 +8,14 @@ use lib.ListN.{length, getD, set, length-set}
 use Rattle.rows.specs.Bytes.{splice, cat, table}
 use Rattle.rows.proofs.Fields.{cat-write}
 use Rattle.rows.proofs.Tables.{splice-whole, table-length}
-use Rattle.rules.specs.State.{Generator, Transfer, Relay, withGenerators, withTransfers, noRelay, Desk, noDesk, Place, free, World, relayAt, deskAt, placeAt, withRelay, withDesk, withPlaces}
+use Rattle.rules.specs.State.{Generator, Transfer, Relay, withGenerators, withTransfers, noRelay, noDesk, Place, free, World, relayAt, deskAt, placeAt, withRelay, withDesk, withPlaces}
+use Rattle.rules.specs.declared.Desk.{Desk}
 use Rattle.rules.specs.Generators.{fresh}
 use Rattle.rules.specs.Relays.{freshTransfer}
-use Rattle.rules.specs.Image.{headBytes, generatorBytes, transferBytes, relayBytes, deskBytes, placeBytes, image, relayFields, worldTables}
-use Rattle.rules.proofs.ImageWidths.{length-head, length-generator, length-transfer, relay-widths, length-relay, length-desk, length-place, world-widths}
+use Rattle.layout.specs.Image.{headBytes, generatorBytes, transferBytes, relayBytes, deskBytes, placeBytes, image, relayFields, worldTables}
+use Rattle.layout.proofs.Widths.{length-head, length-generator, length-transfer, relay-widths, length-relay, length-desk, length-place, world-widths}
 use Rattle.rows.proofs.Change.{Changed, changed-set, table-write}
-use Rattle.rules.proofs.ImageWorld.{Shaped}
+use Rattle.layout.proofs.World.{Shaped}
 
 -- a whole row written over another
 over : {A : Type 0} (enc : A → List ℕ) {w : ℕ} → ((x : A) → length (enc x) ≡ w) → (x y : A) → splice (enc x) 0 (enc y) ≡ enc y

@@ -3,11 +3,13 @@ use mathlib.Core.List.{List}
 use Prim.Native.Nat.{ℕ}
 use lib.Dec.{eqb, leb}
 use lib.ListN.{length}
 use Rattle.rules.specs.Sets.{if_then_else_}
 use Rattle.rules.specs.Messages.{Refusal, bad-world, bad-step, number}
 use Rattle.rules.specs.State.{start}
-use Rattle.rules.specs.Steps.{Step, Report, noReport, Outcome, refusal, done, stepped}
-use Rattle.rules.specs.Image.{image, worldAt, goodBytes}
+use Rattle.rules.specs.declared.Step.{Step}
+use Rattle.rules.specs.Steps.{Report, noReport, Outcome, refusal, done, stepped}
+use Rattle.layout.specs.Layout.{worldWidth}
+use Rattle.layout.specs.Image.{image, worldAt, goodBytes}
 
 -- the answer's number, what is reported, and the buffer
 pub record Lent : Type 0 where
@@ -30,6 +32,6 @@ lentStep b k = if goodBytes b then left b (stepped (worldAt b) k) else kept bad-
 -- BAD WORLD: "at a start, wrong length"; BAD STEP: "start mask 0". A mask above 255 is no mask of relays either.
 unfoldable pub lentStart : List ℕ → ℕ → Lent
 lentStart b mask =
-    if eqb (length b) 65536
+    if eqb (length b) worldWidth
     then (if eqb mask 0 then kept bad-step b else if leb 256 mask then kept bad-step b else record { answer = 0; report = noReport; buffer = image (start mask) })
     else kept bad-world b

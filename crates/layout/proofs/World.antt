@@ -14,14 +14,14 @@ use Rattle.rows.specs.Bytes.{tab, sum, table}
 use Rattle.rows.proofs.Laws.{Holds, holds-self, tab-ext}
 use Rattle.rows.proofs.Fields.{cat-holds}
 use Rattle.rows.proofs.Tables.{table-back}
 use Rattle.rules.specs.Sets.{_&&_, same, all, allHold}
 use Rattle.rules.specs.State.{noRelay, noDesk, free, World}
 use Rattle.rules.specs.WellFormed.{isPair, distinct, goodGenerators, goodTransfers, goodRelay, goodPhase, goodDesk, goodPlace, wellFormed}
-use Rattle.rules.specs.Image.{relayBytes, deskBytes, placeRow, placeBytes, image, relayAt, deskAt, rowAt, placeIn, worldAt, goodBytes, worldTables}
+use Rattle.layout.specs.Image.{relayBytes, deskBytes, placeRow, placeBytes, image, relayAt, deskAt, rowAt, placeIn, worldAt, goodBytes, worldTables}
 use Rattle.rules.proofs.Hold.{hold-facts, from-at, all-at}
-use Rattle.rules.proofs.ImageWidths.{length-relay, length-desk, length-place, worldWidths, world-widths, length-image}
-use Rattle.rules.proofs.ImageFits.{RelayFits, relay-fits, DeskFits, desk-fits, RowFits, place-fits}
-use Rattle.rules.proofs.ImageRows.{relay-back, desk-back, place-back}
+use Rattle.layout.proofs.Widths.{length-relay, length-desk, length-place, worldWidths, world-widths, length-image}
+use Rattle.layout.proofs.Fits.{RelayFits, relay-fits, DeskFits, desk-fits, RowFits, place-fits}
+use Rattle.layout.proofs.Rows.{relay-back, desk-back, place-back}
 
 -- ---- a world that fits
 
