@@ -13,6 +13,7 @@ use Rattle.rules.specs.declared.Desk.{Desk}
 use Rattle.rules.specs.declared.Step.{Step}
 use Rattle.rules.specs.Sets.{_&&_}
 use Rattle.rules.specs.Steps.{Act, join, leave, timer, read, write, deliver, drop, crash, bad, told, Outcome, refusal, done, report, reports, roomy, relayDoes, deskDoes, aliveIn, ifAlive, freed, delivers, delivery, dropping, crashing, acts, stepped}
+use Rattle.layout.specs.Layout.{worldWidth}
 use Rattle.layout.specs.Image.{worldAt, goodBytes}
 use Rattle.layout.specs.Lent.{Lent, left, lentStep, lentStart}
 use Rattle.rules.specs.Sheets.{Written as Ruling, bad-sheet, no-room, wrote}
@@ -115,7 +116,7 @@ step-sayable w k = cases Sayable (goodBytes w) (λ _. left-sayable w _ (acts-mad
 start-sayable : (w : List ℕ) (mask : ℕ) → Sayable (lentStart w mask)
 unfolding lentStart
 start-sayable w mask =
-    cases Sayable (eqb (length w) 65536)
+    cases Sayable (eqb (length w) worldWidth)
     (λ _. cases Sayable (eqb mask 0) (λ _. sayable _ (made nothing 0))
     (λ _. cases Sayable (leb 256 mask) (λ _. sayable _ (made nothing 0)) (λ _. sayable _ (made nothing 0))))
     (λ _. sayable _ (made nothing 0))

@@ -15,6 +15,7 @@ use Rattle.rules.specs.Sending.{waitingIn}
 use Rattle.rules.specs.WellFormed.{wellFormed}
 use Rattle.rules.specs.declared.Step.{Step}
 use Rattle.rules.specs.Steps.{Outcome, refusal, done, after, report, stepped}
+use Rattle.layout.specs.Layout.{worldWidth}
 use Rattle.layout.specs.Image.{placeRow, image, goodBytes}
 use Rattle.layout.specs.Lent.{Lent, left, lentStep}
 use Rattle.rules.specs.Sheets.{stepsIn, allZerosIn, sheet, sheetIn}
@@ -262,7 +263,7 @@ module _ (c : Code) (d : Demand2 c) where
 -- ---- "Invented totals are ruled out by the tie to the steps taken."
 
 -- what `world::run::rehearse` promises to leave in a buffer with room is the record, and the bytes past it as they were
-pub record-promised : (b world out : List ℕ) (mask : ℕ) (ks : List Step) → length world ≡ 65536 → sheetIn b ≡ sheet mask ks → longest (length ks) ≤ length out
+pub record-promised : (b world out : List ℕ) (mask : ℕ) (ks : List Step) → length world ≡ worldWidth → sheetIn b ≡ sheet mask ks → longest (length ks) ≤ length out
     → recordLeft b world out ≡ printed mask ks ++ drop (length (printed mask ks)) out
 unfolding recordLeft decided laidBy
 record-promised b world out mask ks long e fits = rw (long, e, le-ltb (length out) (longest (length ks)) fits)
@@ -311,7 +312,7 @@ module _ (mask : ℕ) (ks : List Step) (some : 0 < mask) (byte : mask < 256) (fe
       (after-all lines (invented ++ t) (counted ++ u) (after-all (startOf mask) (lines ++ (invented ++ t)) (lines ++ (counted ++ u)) same))
 
   -- the same of what `world::run::rehearse` promises to leave in a buffer with room
-  pub rehearse-tied : (b world out : List ℕ) → length world ≡ 65536 → sheetIn b ≡ sheet mask ks → longest (length ks) ≤ length out
+  pub rehearse-tied : (b world out : List ℕ) → length world ≡ worldWidth → sheetIn b ≡ sheet mask ks → longest (length ks) ≤ length out
       → (sent delivered dropped waiting : ℕ) (t : List ℕ) → Small sent delivered dropped waiting
       → withTotals mask ks sent delivered dropped waiting ++ t ≡ recordLeft b world out
       → (sent ≡ sum sentBy os) × (delivered ≡ sum deliveredBy os) × (dropped ≡ sum droppedBy os) × (waiting ≡ waits)
@@ -319,7 +320,7 @@ module _ (mask : ℕ) (ks : List Step) (some : 0 < mask) (byte : mask < 256) (fe
       totals-tied sent delivered dropped waiting t (drop (length (printed mask ks)) out) small (same ∙ record-promised b world out mask ks long e fits)
 
   -- and of what a program leaves that meets demand 2 as it is stated
-  pub demand2-totals-tied : (c : Code) → Demand2 c → (b world out : List ℕ) → sheetIn b ≡ sheet mask ks → length world ≡ 65536 → longest (length ks) ≤ length out
+  pub demand2-totals-tied : (c : Code) → Demand2 c → (b world out : List ℕ) → sheetIn b ≡ sheet mask ks → length world ≡ worldWidth → longest (length ks) ≤ length out
       → (sent delivered dropped waiting : ℕ) (t : List ℕ) → Small sent delivered dropped waiting
       → withTotals mask ks sent delivered dropped waiting ++ t ≡ c .rehearse-out b world out
       → (sent ≡ sum sentBy os) × (delivered ≡ sum deliveredBy os) × (dropped ≡ sum droppedBy os) × (waiting ≡ waits)
@@ -349,7 +350,7 @@ module _ (sent delivered dropped waiting : ℕ) (small : Small sent delivered dr
       rehearse-tied 1 ks (omega arith) (omega arith) few b one out (length-image (start 1)) is room sent delivered dropped waiting
       (drop (length made) out) small (sym whole ∙ p out room) .0
 
-  pub rehearse-invented : ¬ ((b world out : List ℕ) (mask : ℕ) (ks : List Step) → length world ≡ 65536 → sheetIn b ≡ sheet mask ks
+  pub rehearse-invented : ¬ ((b world out : List ℕ) (mask : ℕ) (ks : List Step) → length world ≡ worldWidth → sheetIn b ≡ sheet mask ks
       → longest (length ks) ≤ length out → laid out 0 (withTotals mask ks sent delivered dropped waiting) ≡ recordLeft b world out)
   unfolding recorded sheetIn stepsIn allZerosIn numberAt
   rehearse-invented p =

@@ -17,6 +17,7 @@ use Rattle.rules.specs.declared.Step.{Step}
 use Rattle.rules.specs.Steps.{Outcome, refusal, done, noReport, after, report, stepped}
 use Rattle.rules.specs.Table.{firstOf, table}
 use Rattle.rules.specs.WellFormed.{wellFormed}
+use Rattle.layout.specs.Layout.{worldWidth}
 use Rattle.layout.specs.Image.{image, worldAt, goodBytes}
 use Rattle.layout.specs.Lent.{Lent, kept, left, lentStep, lentStart}
 use Rattle.rules.specs.Sheets.{Written, wrote, written, Sheet, sheet, bad, badSheet, stepsOf, stepsIn, sheetIn, sheetBytes}
@@ -108,7 +109,7 @@ module _ (w : List ℕ) (mask : ℕ) where
 
   start-said : Said w (startRows w mask) (lentStart w mask)
   unfolding lentStart
-  start-said = go (eqb (length w) 65536) (eqb mask 0) (leb 256 mask)
+  start-said = go (eqb (length w) worldWidth) (eqb mask 0) (leb 256 mask)
     where
       go : (a b c : Bool) → Said w ((not a, number refusals.bad-world) ∷ (b || c, number bad-step) ∷ []) (startLeft a b c)
       go true true c = record { first = refl; known = lit≤ tt; refused = λ h. (refl, refl) }
@@ -116,9 +117,9 @@ module _ (w : List ℕ) (mask : ℕ) where
       go true false false = record { first = refl; known = lit≤ tt; refused = λ h. absurd (omega arith) }
       go false b c = record { first = refl; known = lit≤ tt; refused = λ h. (refl, refl) }
 
-  start-accepted : length w ≡ 65536 → 0 < mask → mask < 256 → lentStart w mask ≡ begun
+  start-accepted : length w ≡ worldWidth → 0 < mask → mask < 256 → lentStart w mask ≡ begun
   unfolding lentStart
-  start-accepted long some small = rw (eq-eqb (length w) 65536 long, ne-eqb mask 0 (λ z. omega arith), lt-leb 256 mask small)
+  start-accepted long some small = rw (eq-eqb (length w) worldWidth long, ne-eqb mask 0 (λ z. omega arith), lt-leb 256 mask small)
 
 -- ---- sheets: checked, read step by step, written
 
@@ -217,7 +218,7 @@ module _ (b w out : List ℕ) where
 
   rehearse-first : numberBy (decided b w out) ≡ firstOf (rehearseRows b w out)
   unfolding decided
-  rehearse-first = go (eqb (length w) 65536) (sheetIn b) refl
+  rehearse-first = go (eqb (length w) worldWidth) (sheetIn b) refl
     where
       room : (mask : ℕ) (ks : List Step) (n : ℕ) → n ≡ length ks
           → numberBy (roomFor (length out) (sheet mask ks)) ≡ firstOf ((ltb (length out) (longest n), number refusals.no-room) ∷ [])
@@ -235,9 +236,9 @@ module _ (b w out : List ℕ) where
       go false s e = refl
 
   -- where there is room, this sheet is run
-  rehearse-runs : (mask : ℕ) (ks : List Step) → sheetIn b ≡ sheet mask ks → length w ≡ 65536 → longest (length ks) ≤ length out → decided b w out ≡ runs mask ks
+  rehearse-runs : (mask : ℕ) (ks : List Step) → sheetIn b ≡ sheet mask ks → length w ≡ worldWidth → longest (length ks) ≤ length out → decided b w out ≡ runs mask ks
   unfolding decided
-  rehearse-runs mask ks e long room = rw (eq-eqb (length w) 65536 long, e, le-ltb (length out) (longest (length ks)) room)
+  rehearse-runs mask ks e long room = rw (eq-eqb (length w) worldWidth long, e, le-ltb (length out) (longest (length ks)) room)
 
 -- ---- what a program answers and leaves is what was promised
 
@@ -289,7 +290,7 @@ module _ (c : Code) (p : Promised c) where
   run-good : (w : List ℕ) → goodBytes w ≡ true → (ks : List Step) → Follows w (worldAt w) ks
   run-good w good ks = subst (λ (x : List ℕ). Follows x (worldAt w) ks) (good-image w good) (run-of (worldAt w) (good-formed w good) ks)
 
-  module _ (w : List ℕ) (mask : ℕ) (long : length w ≡ 65536) (some : 0 < mask) (small : mask < 256) where
+  module _ (w : List ℕ) (mask : ℕ) (long : length w ≡ worldWidth) (some : 0 < mask) (small : mask < 256) where
     started : (c .start w mask .number ≡ 0) × (reportOf (c .start w mask .report) ≡ noReport) × (c .start-world w mask ≡ image (start mask))
     started =
         let e = p .start-kept w mask ∙ start-accepted w mask long some small in
@@ -335,7 +336,7 @@ module _ (c : Code) (p : Promised c) where
             ap (λ (r : Rehearsed). r .length) (p .rehearse-answer b world out) ∙ ap length l,
           )
 
-    rehearsed : (mask : ℕ) (ks : List Step) → sheetIn b ≡ sheet mask ks → length world ≡ 65536 → longest (length ks) ≤ length out
+    rehearsed : (mask : ℕ) (ks : List Step) → sheetIn b ≡ sheet mask ks → length world ≡ worldWidth → longest (length ks) ≤ length out
         → (c .rehearse b world out .answer ≡ 0)
         × (c .rehearse b world out .length ≡ length (printed mask ks))
         × (c .rehearse-world b world out ≡ image (lastWorld (start mask) ks))

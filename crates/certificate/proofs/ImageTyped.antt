@@ -14,6 +14,7 @@ use Rattle.rules.specs.declared.Desk.{Desk}
 use Rattle.rules.specs.declared.Phase.{Phase}
 use Rattle.rules.specs.declared.Phase.the-variants.{Idle, Read1, Read2, Write1, Write2}
 use Rattle.rules.specs.WellFormed.{wellFormed}
+use Rattle.layout.specs.Layout.{worldWidth, worldRest}
 use Rattle.layout.specs.Image.{flag, sequenceBytes, pairBytes, pairFields, headBytes, headFields, generatorBytes, generatorFields}
 use Rattle.layout.specs.Image.{transferBytes, transferFields, relayBytes, relayFields, phaseNumber, deskBytes, deskFields}
 use Rattle.layout.specs.Image.{Row, placeRow, rowBytes, rowFields, placeBytes, image, worldTables}
@@ -140,7 +141,7 @@ world-bytes w good =
     let h = world-fits w good in
     pieces (worldTables w)
     (in-rows 8 _ (λ k. relay-bytes _ (h .relay k)) and in-rows 4 _ (λ k. desk-bytes _ (h .desk k))
-    and in-rows 256 _ (λ k. place-bytes _ (h .place k)) and zero-bytes 1280 and no-more)
+    and in-rows 256 _ (λ k. place-bytes _ (h .place k)) and zero-bytes worldRest and no-more)
 
 -- ---- as the test has it
 
@@ -149,7 +150,7 @@ unfolding Bytes
 every-byte [] h = tt
 every-byte (x ∷ l) h = rw (lt-ltb x 256 (h .0)) (every-byte l (h .1))
 
-bytes-slice : (l : List ℕ) → length l ≡ 65536 → Bytes l → T (in-bytes l)
+bytes-slice : (l : List ℕ) → length l ≡ worldWidth → Bytes l → T (in-bytes l)
 bytes-slice l e h = rw e (every-byte l h)
 
 pub image-bytes : (w : World) → wellFormed w ≡ true → T (in-bytes (image w))

@@ -11,6 +11,7 @@ use Rattle.stamps.specs.declared.Pair.{Pair}
 use Rattle.stamps.specs.Stamp.{freshPair}
 use Rattle.rows.specs.Bytes.{splice, placed, bytesOf, numberAt, be16, u16At, run, tab, cat, zeros}
 use Rattle.rules.specs.State.{withKnown}
+use Rattle.layout.specs.Layout.{notesWidth, generatorWidth, relayGenerators}
 use Rattle.layout.specs.Image.{flagAt, sequenceBytes, sequenceAt, pairBytes, pairAt, headBytes, generatorBytes, transferBytes, deskBytes, deskAt, rowBytes}
 use Rattle.rules.specs.declared.Desk.{Desk}
 use Rattle.rules.specs.declared.Phase.the-variants.{Read1}
@@ -83,7 +84,7 @@ headRow = 1 ∷ 1 ∷ 0 ∷ 0 ∷ 3 ∷ 0 ∷ 7 ∷ []
 abbrev head : Head
 head = record { alive = true; entered = true; active = false; view = 3; known = 7; pending = 0; holds = pair }
 
-pub image-head-at-the-next : ¬ ((s : List ℕ) (at : ℕ) → T (in-bytes s) → T (in-usize at) → headAt s (at + 64) ≡ headAt s at)
+pub image-head-at-the-next : ¬ ((s : List ℕ) (at : ℕ) → T (in-bytes s) → T (in-usize at) → headAt s (at + relayGenerators) ≡ headAt s at)
 unfolding numberAt pairAt headAt
 image-head-at-the-next p = differ (λ (h : Head). h .view) (p headRow 0 tt tt) tt
 
@@ -118,12 +119,12 @@ image-notes-at-the-first-eight-times p = differ (λ n. manyIn n 1) (p (sequenceB
 pub image-put-notes-nowhere : ¬ ((s : List ℕ) (at : ℕ) (n : Notes) → T (in-bytes s) → T (in-usize at) → T (in-Notes n)
     → s ≡ placed s at (notesBytes (notesOf n)))
 unfolding viewsOf rowOf notesOf placed splice bytesOf run zeros sequenceBytes notesBytes
-image-put-notes-nowhere p = differ (entry 61) (p (zeros 248) 0 notes tt tt tt) tt
+image-put-notes-nowhere p = differ (entry 61) (p (zeros notesWidth) 0 notes tt tt tt) tt
 
 pub image-put-notes-first-only : ¬ ((s : List ℕ) (at : ℕ) (n : Notes) → T (in-bytes s) → T (in-usize at) → T (in-Notes n)
     → placed s at (sequenceBytes (getD (notesOf n) 0 [])) ≡ placed s at (notesBytes (notesOf n)))
 unfolding viewsOf rowOf notesOf placed splice bytesOf run zeros sequenceBytes notesBytes
-image-put-notes-first-only p = differ (entry 61) (p (zeros 248) 0 notes tt tt tt) tt
+image-put-notes-first-only p = differ (entry 61) (p (zeros notesWidth) 0 notes tt tt tt) tt
 
 -- the generator for 1 with own {3}, and one whose own and converged are exchanged
 abbrev generator : Generator
@@ -135,7 +136,7 @@ exchanged g = record { view = g .view; own = g .converged; converged = g .own; r
 abbrev manyOwn : Generator → ℕ
 manyOwn g = many (g .own)
 
-pub image-generator-at-the-next : ¬ ((s : List ℕ) (at : ℕ) → T (in-bytes s) → T (in-usize at) → generatorRowAt s (at + 592) ≡ generatorRowAt s at)
+pub image-generator-at-the-next : ¬ ((s : List ℕ) (at : ℕ) → T (in-bytes s) → T (in-usize at) → generatorRowAt s (at + generatorWidth) ≡ generatorRowAt s at)
 unfolding bytesOf run sequenceBytes sequenceRowAt generatorRowAt
 image-generator-at-the-next p = differ manyOwn (p (be16 1 ++ sequenceBytes (3 ∷ [])) 0 tt tt) tt
 
@@ -146,12 +147,12 @@ image-generator-at-own-for-converged p = differ manyOwn (p (be16 1 ++ sequenceBy
 pub image-put-generator-nowhere : ¬ ((s : List ℕ) (at : ℕ) (g : Generator) → T (in-bytes s) → T (in-usize at) → T (in-Generator g)
     → s ≡ placed s at (generatorBytes (generatorOf g)))
 unfolding viewsOf rowOf notesOf generatorOf placed splice bytesOf run zeros cat sequenceBytes generatorBytes
-image-put-generator-nowhere p = differ (entry 32) (p (zeros 592) 0 generator tt tt tt) tt
+image-put-generator-nowhere p = differ (entry 32) (p (zeros generatorWidth) 0 generator tt tt tt) tt
 
 pub image-put-generator-own-for-converged : ¬ ((s : List ℕ) (at : ℕ) (g : Generator) → T (in-bytes s) → T (in-usize at) → T (in-Generator g)
     → placed s at (generatorBytes (generatorOf (exchanged g))) ≡ placed s at (generatorBytes (generatorOf g)))
 unfolding viewsOf rowOf notesOf generatorOf placed splice bytesOf run zeros cat sequenceBytes generatorBytes
-image-put-generator-own-for-converged p = differ (entry 32) (p (zeros 592) 0 generator tt tt tt) tt
+image-put-generator-own-for-converged p = differ (entry 32) (p (zeros generatorWidth) 0 generator tt tt tt) tt
 
 -- the transfer from 1 to 3, and one the other way
 abbrev transfer : Transfer
@@ -185,7 +186,7 @@ desk = record { alive = true; view = 1; phase = Read1; tries = 5; holds = freshP
 abbrev bestHeld : Desk → Desk
 bestHeld d = record { alive = d .alive; view = d .view; phase = d .phase; tries = d .tries; holds = d .best; replied = d .replied; best = d .best; agreed = d .agreed }
 
-pub image-desk-at-the-next : ¬ ((s : List ℕ) (at : ℕ) → T (in-bytes s) → T (in-usize at) → deskAt s (at + 64) ≡ deskAt s at)
+pub image-desk-at-the-next : ¬ ((s : List ℕ) (at : ℕ) → T (in-bytes s) → T (in-usize at) → deskAt s (at + relayGenerators) ≡ deskAt s at)
 unfolding numberAt bytesOf run zeros cat pairAt deskAt pairBytes deskBytes
 image-desk-at-the-next p = differ (λ (d : Desk). d .tries) (p (deskBytes desk) 0 tt tt) tt
 

@@ -12,6 +12,7 @@ use Rattle.rules.specs.Sending.{waitingIn}
 use Rattle.rules.specs.WellFormed.{wellFormed}
 use Rattle.rules.specs.declared.Step.{Step}
 use Rattle.rules.specs.Steps.{after, stepped}
+use Rattle.layout.specs.Layout.{worldWidth}
 use Rattle.layout.specs.Image.{image, goodBytes}
 use Rattle.layout.specs.Lent.{Lent, left, lentStart, lentStep}
 use Rattle.rules.specs.Sheets as sheets
@@ -40,7 +41,7 @@ use Rattle.certificate.proofs.Worlds.{one, two, one-formed, two-formed,
 pub good-is-good-refused-always : ¬ ((w : List ℕ) → T (in-bytes w) → false ≡ goodBytes w)
 good-is-good-refused-always p = differ truth (p one one-bytes ∙ one-good) tt
 
-pub good-is-good-by-length-only : ¬ ((w : List ℕ) → T (in-bytes w) → eqb (length w) 65536 ≡ goodBytes w)
+pub good-is-good-by-length-only : ¬ ((w : List ℕ) → T (in-bytes w) → eqb (length w) worldWidth ≡ goodBytes w)
 good-is-good-by-length-only p = differ truth (sym (ap (λ n. eqb n 65536) soiled-long) ∙ p soiled soiled-bytes ∙ soiled-bad) tt
 
 -- ---- world
@@ -126,7 +127,7 @@ unfolding rehearseAnswer decided answerBy
 world-rehearse-answer-done-always p = differ (λ (r : Rehearsed). r .answer) (p blank [] page tt tt tt) tt
 
 -- with a world of the right length
-module _ (world : List ℕ) (e : length world ≡ 65536) (sheet out : List ℕ) where
+module _ (world : List ℕ) (e : length world ≡ worldWidth) (sheet out : List ℕ) where
   ruled-there : decided sheet world out ≡ roomFor (length out) (sheetIn sheet)
   unfolding decided
   ruled-there = rw e
@@ -144,30 +145,30 @@ module _ (world : List ℕ) (e : length world ≡ 65536) (sheet out : List ℕ) 
   printed-there = ap (laidBy out) ruled-there
 
 -- a test of the world's length, where it is right
-long-right : {A : Type 0} (world : List ℕ) → length world ≡ 65536 → (a b : A) → (if eqb (length world) 65536 && true then a else b) ≡ a
+long-right : {A : Type 0} (world : List ℕ) → length world ≡ worldWidth → (a b : A) → (if eqb (length world) worldWidth && true then a else b) ≡ a
 long-right world e a b = rw e
 
-abbrev one-long : length one ≡ 65536
+abbrev one-long : length one ≡ worldWidth
 one-long = length-image (start 1)
 
-abbrev two-long : length two ≡ 65536
+abbrev two-long : length two ≡ worldWidth
 two-long = length-image (start 2)
 
 pub world-rehearse-answer-done-without-room : ¬ ((sheet world out : List ℕ) → T (in-bytes sheet) → T (in-bytes world) → T (in-bytes out)
-    → (if eqb (length world) 65536 && ltb (length out) (length (rehearsed sheet)) then record { answer = 0; length = length (rehearsed sheet) } else rehearseAnswer sheet world out) ≡ rehearseAnswer sheet world out)
+    → (if eqb (length world) worldWidth && ltb (length out) (length (rehearsed sheet)) then record { answer = 0; length = length (rehearsed sheet) } else rehearseAnswer sheet world out) ≡ rehearseAnswer sheet world out)
 unfolding answerBy longest sheetIn stepsIn allZerosIn recorded rehearsed
 world-rehearse-answer-done-without-room p =
     differ (λ (r : Rehearsed). r .answer) (sym (long-right one one-long _ _) ∙ p blank one [] tt one-bytes tt ∙ answered-there one one-long blank []) tt
 
 -- a record that would just fit, in a buffer that the longest of as many steps does not fit into
 pub world-rehearse-answer-room-by-the-record : ¬ ((sheet world out : List ℕ) → T (in-bytes sheet) → T (in-bytes world) → T (in-bytes out)
-    → (if eqb (length world) 65536 && leb (length (rehearsed sheet)) (length out) then record { answer = 0; length = length (rehearsed sheet) } else rehearseAnswer sheet world out) ≡ rehearseAnswer sheet world out)
+    → (if eqb (length world) worldWidth && leb (length (rehearsed sheet)) (length out) then record { answer = 0; length = length (rehearsed sheet) } else rehearseAnswer sheet world out) ≡ rehearseAnswer sheet world out)
 unfolding answerBy longest sheetIn stepsIn allZerosIn recorded rehearsed
 world-rehearse-answer-room-by-the-record p =
     differ (λ (r : Rehearsed). r .answer) (sym (long-right one one-long _ _) ∙ p blank one page tt one-bytes tt ∙ answered-there one one-long blank page) tt
 
 pub world-rehearse-answer-bad-sheet-done : ¬ ((sheet world out : List ℕ) → T (in-bytes sheet) → T (in-bytes world) → T (in-bytes out)
-    → (if eqb (length world) 65536 && badSheet sheet then record { answer = 0; length = length badOf } else rehearseAnswer sheet world out) ≡ rehearseAnswer sheet world out)
+    → (if eqb (length world) worldWidth && badSheet sheet then record { answer = 0; length = length badOf } else rehearseAnswer sheet world out) ≡ rehearseAnswer sheet world out)
 unfolding answerBy sheetIn line digits
 world-rehearse-answer-bad-sheet-done p =
     differ (λ (r : Rehearsed). r .answer) (sym (long-right one one-long _ _) ∙ p [] one page tt one-bytes tt ∙ answered-there one one-long [] page) tt
@@ -179,7 +180,7 @@ world-rehearse-last-as-it-was p = starts-differ (p blank two wide tt two-bytes t
 
 -- the steps are run though the record has no room
 pub world-rehearse-last-run-without-room : ¬ ((sheet world out : List ℕ) → T (in-bytes sheet) → T (in-bytes world) → T (in-bytes out)
-    → (if eqb (length world) 65536 && not (badSheet sheet) then image (lastWorld (start (getD sheet 5 0)) (stepsIn (stepsOf sheet) (drop 6 sheet))) else worldLeft sheet world out) ≡ worldLeft sheet world out)
+    → (if eqb (length world) worldWidth && not (badSheet sheet) then image (lastWorld (start (getD sheet 5 0)) (stepsIn (stepsOf sheet) (drop 6 sheet))) else worldLeft sheet world out) ≡ worldLeft sheet world out)
 unfolding longest line digits sheetIn stepsIn allZerosIn lastWorld
 world-rehearse-last-run-without-room p = starts-differ (sym (sym (long-right two two-long _ _) ∙ p blank two narrow tt two-bytes tt ∙ left-there two two-long blank narrow))
 
@@ -194,13 +195,13 @@ unfolding laid laidBy longest sheetIn stepsIn allZerosIn recorded
 world-rehearse-printed-bad-always p = differ (entry 0) (p blank one wide tt one-bytes tt ∙ printed-there one one-long blank wide) tt
 
 pub world-rehearse-printed-bad-in-part : ¬ ((sheet world out : List ℕ) → T (in-bytes sheet) → T (in-bytes world) → T (in-bytes out)
-    → (if eqb (length world) 65536 && badSheet sheet then laid out 0 badOf else recordLeft sheet world out) ≡ recordLeft sheet world out)
+    → (if eqb (length world) worldWidth && badSheet sheet then laid out 0 badOf else recordLeft sheet world out) ≡ recordLeft sheet world out)
 unfolding laid laidBy sheetIn line digits
 world-rehearse-printed-bad-in-part p = differ (entry 0) (sym (long-right one one-long _ _) ∙ p [] one narrow tt one-bytes tt ∙ printed-there one one-long [] narrow) tt
 
 -- as much of a record as fits
 pub world-rehearse-printed-cut-short : ¬ ((sheet world out : List ℕ) → T (in-bytes sheet) → T (in-bytes world) → T (in-bytes out)
-    → (if eqb (length world) 65536 && not (badSheet sheet) then laid out 0 (rehearsed sheet) else recordLeft sheet world out) ≡ recordLeft sheet world out)
+    → (if eqb (length world) worldWidth && not (badSheet sheet) then laid out 0 (rehearsed sheet) else recordLeft sheet world out) ≡ recordLeft sheet world out)
 unfolding laid laidBy longest sheetIn stepsIn allZerosIn recorded rehearsed
 world-rehearse-printed-cut-short p = differ (entry 0) (sym (long-right one one-long _ _) ∙ p blank one narrow tt one-bytes tt ∙ printed-there one one-long blank narrow) tt
 
@@ -219,13 +220,13 @@ numbered mask ks =
     startOf mask ++ (stepLines 0 os ++ endOf (sum sentBy os) (sum deliveredBy os) (sum droppedBy os) (waitingIn (lastWorld (start mask) ks .places)))
 
 pub world-rehearse-printed-numbers-from-0 : ¬ ((sheet world out : List ℕ) → T (in-bytes sheet) → T (in-bytes world) → T (in-bytes out)
-    → (if eqb (length world) 65536 && not (badSheet sheet) then laid out 0 (numbered (getD sheet 5 0) (stepsIn (stepsOf sheet) (drop 6 sheet))) else recordLeft sheet world out) ≡ recordLeft sheet world out)
+    → (if eqb (length world) worldWidth && not (badSheet sheet) then laid out 0 (numbered (getD sheet 5 0) (stepsIn (stepsOf sheet) (drop 6 sheet))) else recordLeft sheet world out) ≡ recordLeft sheet world out)
 unfolding laid laidBy longest sheetIn stepsIn allZerosIn recorded numberAt
 world-rehearse-printed-numbers-from-0 p =
     differ (entry 8) (sym (long-right one one-long _ _) ∙ p written one wide tt one-bytes tt ∙ printed-there one one-long written wide) tt
 
 pub world-rehearse-printed-invented-totals : ¬ ((sheet world out : List ℕ) → T (in-bytes sheet) → T (in-bytes world) → T (in-bytes out)
-    → (if eqb (length world) 65536 && not (badSheet sheet) then laid out 0 (withTotals (getD sheet 5 0) (stepsIn (stepsOf sheet) (drop 6 sheet)) 0 0 0 0) else recordLeft sheet world out) ≡ recordLeft sheet world out)
+    → (if eqb (length world) worldWidth && not (badSheet sheet) then laid out 0 (withTotals (getD sheet 5 0) (stepsIn (stepsOf sheet) (drop 6 sheet)) 0 0 0 0) else recordLeft sheet world out) ≡ recordLeft sheet world out)
 unfolding laid laidBy longest sheetIn stepsIn allZerosIn recorded numberAt
 world-rehearse-printed-invented-totals p =
     differ (entry 26) (sym (long-right one one-long _ _) ∙ p written one wide tt one-bytes tt ∙ printed-there one one-long written wide) tt
@@ -239,7 +240,7 @@ pub engine-world-good-1-for-a-good-one : ¬ ((w : List ℕ) → T (in-bytes w) �
 engine-world-good-1-for-a-good-one p =
     differ itself (sym (ap (λ (b : Bool). if b then 1 else 0) one-good) ∙ p one one-bytes ∙ ap (λ (b : Bool). if b then 0 else 1) one-good) tt
 
-pub engine-world-good-by-length-only : ¬ ((w : List ℕ) → T (in-bytes w) → (if eqb (length w) 65536 then 0 else 1) ≡ goodNumber w)
+pub engine-world-good-by-length-only : ¬ ((w : List ℕ) → T (in-bytes w) → (if eqb (length w) worldWidth then 0 else 1) ≡ goodNumber w)
 engine-world-good-by-length-only p =
     differ itself (sym (ap (λ (n : ℕ). if eqb n 65536 then 0 else 1) soiled-long) ∙ p soiled soiled-bytes ∙ ap (λ (b : Bool). if b then 0 else 1) soiled-bad) tt
 
@@ -252,7 +253,7 @@ unfolding lentStart
 mask-0-there = rw (length-image (start 1))
 
 pub engine-world-start-answer-mask-0-accepted : ¬ ((w : List ℕ) (mask : ℕ) → T (in-bytes w) → T (in-u8 mask)
-    → (if eqb (length w) 65536 && eqb mask 0 then 0 else lentStart w mask .answer) ≡ lentStart w mask .answer)
+    → (if eqb (length w) worldWidth && eqb mask 0 then 0 else lentStart w mask .answer) ≡ lentStart w mask .answer)
 engine-world-start-answer-mask-0-accepted p = differ itself (sym (long-right one one-long _ _) ∙ p one 0 one-bytes tt ∙ mask-0-there) tt
 
 pub engine-world-start-buffer-as-it-was : ¬ ((w : List ℕ) (mask : ℕ) → T (in-bytes w) → T (in-u8 mask) → w ≡ lentStart w mask .buffer)

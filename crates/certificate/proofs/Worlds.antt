@@ -15,6 +15,7 @@ use Rattle.rules.specs.State.{World, start}
 use Rattle.rules.specs.WellFormed.{wellFormed}
 use Rattle.rules.specs.declared.Step.{Step}
 use Rattle.rules.specs.Steps.{noReport, stepped}
+use Rattle.layout.specs.Layout.{worldZeros, worldWidth}
 use Rattle.layout.specs.Image.{image, worldAt, goodBytes}
 use Rattle.layout.specs.Lent.{left, lentStep, lentStart}
 use Rattle.rules.proofs.Starts.{start-good}
@@ -59,26 +60,26 @@ unfolding lentStep
 step-of W g k = rw (image-good W g, world-back W g)
 
 -- a start in a buffer of the right length
-pub start-of : (w : List ℕ) → length w ≡ 65536 → lentStart w 1 ≡ record { answer = 0; report = noReport; buffer = one }
+pub start-of : (w : List ℕ) → length w ≡ worldWidth → lentStart w 1 ≡ record { answer = 0; report = noReport; buffer = one }
 unfolding lentStart
 start-of w e = rw e
 
 -- "the rest is zero": a start with one byte of the unused room set is not good, though its length is right
 abbrev pub soiled : List ℕ
-soiled = set one 64256 1
+soiled = set one worldZeros 1
 
-pub soiled-long : length soiled ≡ 65536
-soiled-long = length-set one 64256 1 ∙ length-image (start 1)
+pub soiled-long : length soiled ≡ worldWidth
+soiled-long = length-set one worldZeros 1 ∙ length-image (start 1)
 
 pub soiled-bytes : T (in-bytes soiled)
-soiled-bytes = changed-bytes (start 1) one-formed 64256 1 (omega arith)
+soiled-bytes = changed-bytes (start 1) one-formed worldZeros 1 (omega arith)
 
-room-zero : (W : World) → getD (image W) 64256 0 ≡ 0
+room-zero : (W : World) → getD (image W) worldZeros 0 ≡ 0
 unfolding image zeros run
-room-zero W = holds-byte (image W) 64256 0 _ (cat-holds (world-widths W) (image W) 3 0 (omega arith) (holds-self (image W)))
+room-zero W = holds-byte (image W) worldZeros 0 _ (cat-holds (world-widths W) (image W) 3 0 (omega arith) (holds-self (image W)))
 
 pub soiled-bad : goodBytes soiled ≡ false
 soiled-bad = never-true (goodBytes soiled) (λ good.
-    let zero : getD soiled 64256 0 ≡ 0 = ap (λ (b : List ℕ). getD b 64256 0) (sym (good-image soiled good)) ∙ room-zero (worldAt soiled) in
-    let set-one : getD soiled 64256 0 ≡ 1 = getD-set-same one 64256 1 0 (omega (arith, length-image (start 1))) in
+    let zero : getD soiled worldZeros 0 ≡ 0 = ap (λ (b : List ℕ). getD b worldZeros 0) (sym (good-image soiled good)) ∙ room-zero (worldAt soiled) in
+    let set-one : getD soiled worldZeros 0 ≡ 1 = getD-set-same one worldZeros 1 0 (omega (arith, length-image (start 1))) in
     omega (arith, zero, set-one))

@@ -12,6 +12,7 @@ use Rattle.rules.specs.Messages.{bad-world, bad-step, no-room, number}
 use Rattle.rules.specs.declared.Step.{Step}
 use Rattle.rules.specs.Steps.{noReport}
 use Rattle.rules.specs.Table.{firstOf, table}
+use Rattle.layout.specs.Layout.{worldWidth}
 use Rattle.layout.specs.Image.{worldAt, goodBytes}
 use Rattle.rules.specs.Sheets.{stepsOf, badSheet}
 use Rattle.rules.specs.Sheets as sheets
@@ -35,7 +36,7 @@ stepRows w k = (not (goodBytes w), number bad-world) ∷ table (worldAt w) k
 
 -- BAD WORLD: "at a start, wrong length"; BAD STEP: "start mask 0" (a mask above 255 is none either)
 abbrev pub startRows : List ℕ → ℕ → Rows
-startRows w mask = (not (eqb (length w) 65536), number bad-world) ∷ (eqb mask 0 || leb 256 mask, number bad-step) ∷ []
+startRows w mask = (not (eqb (length w) worldWidth), number bad-world) ∷ (eqb mask 0 || leb 256 mask, number bad-step) ∷ []
 
 -- "BAD SHEET: under six bytes, wrong mark, version, mask 0, a part step, non-zero in the two bytes, over 8,000 steps."
 abbrev pub checkRows : List ℕ → Rows
@@ -51,7 +52,7 @@ writeRows buf mask kinds ids values =
 -- BAD WORLD as at a start; BAD SHEET; NO ROOM: less room than the longest record of so many steps takes
 abbrev pub rehearseRows : List ℕ → List ℕ → List ℕ → Rows
 rehearseRows sheet world out =
-    (not (eqb (length world) 65536), number bad-world)
+    (not (eqb (length world) worldWidth), number bad-world)
     ∷ (badSheet sheet, BAD-SHEET)
     ∷ (ltb (length out) (longest (stepsOf sheet)), number no-room)
     ∷ []

@@ -8,6 +8,7 @@ use lib.ListN.{length, getD, take, drop}
 use Rattle.rules.specs.State.{start}
 use Rattle.rules.specs.declared.Step.{Step}
 use Rattle.rules.specs.Steps.{Outcome, noReport, after, report, stepped}
+use Rattle.layout.specs.Layout.{worldWidth}
 use Rattle.layout.specs.Image.{image, worldAt, goodBytes}
 use Rattle.rules.specs.Sheets.{sheet, sheetIn}
 use Rattle.rules.specs.Runs.{outcomes, lastWorld, answer, fields, printed, longest}
@@ -56,7 +57,7 @@ Below n l = (i : ℕ) → getD l i 0 < n
 
 pub record Demand2 (c : Code) : Type 0 where
   -- a start is done in any buffer of the right length, and leaves the image of the rules' start
-  pub started : (w : List ℕ) (mask : ℕ) → length w ≡ 65536 → 0 < mask → mask < 256
+  pub started : (w : List ℕ) (mask : ℕ) → length w ≡ worldWidth → 0 < mask → mask < 256
       → (c .start w mask .number ≡ 0) × (reportOf (c .start w mask .report) ≡ noReport) × (c .start-world w mask ≡ image (start mask))
   -- an accepted step was put to a good world; it leaves the image of what the rules make of that, and reports what they report
   pub accepted : (w : List ℕ) (k : Step) → c .step w k .number ≡ 0
@@ -66,11 +67,11 @@ pub record Demand2 (c : Code) : Type 0 where
   pub run : (w : List ℕ) → goodBytes w ≡ true → (ks : List Step)
       → (ranBy c w ks ≡ image (lastWorld (worldAt w) ks)) × (toldBy c w ks ≡ map outcomeLine (outcomes (worldAt w) ks))
   -- and from any start
-  pub run-started : (w : List ℕ) (mask : ℕ) → length w ≡ 65536 → 0 < mask → mask < 256 → (ks : List Step)
+  pub run-started : (w : List ℕ) (mask : ℕ) → length w ≡ worldWidth → 0 < mask → mask < 256 → (ks : List Step)
       → (ranBy c (c .start-world w mask) ks ≡ image (lastWorld (start mask) ks))
       × (toldBy c (c .start-world w mask) ks ≡ map outcomeLine (outcomes (start mask) ks))
   -- a sheet is run where there is room for its record: that leaves the image of its last world, and its record whole at the front of the record's buffer
-  pub rehearsed : (b world out : List ℕ) (mask : ℕ) (ks : List Step) → sheetIn b ≡ sheet mask ks → length world ≡ 65536 → longest (length ks) ≤ length out
+  pub rehearsed : (b world out : List ℕ) (mask : ℕ) (ks : List Step) → sheetIn b ≡ sheet mask ks → length world ≡ worldWidth → longest (length ks) ≤ length out
       → (c .rehearse b world out .answer ≡ 0)
       × (c .rehearse b world out .length ≡ length (printed mask ks))
       × (c .rehearse-world b world out ≡ image (lastWorld (start mask) ks))

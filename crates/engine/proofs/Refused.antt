@@ -8,6 +8,7 @@ use borrow.Author.Tests.{ne-eqb}
 use Rattle.views.proofs.Truth.{cases}
 use Rattle.rows.specs.Bytes.{be32}
 use Rattle.rules.specs.Sets.{if_then_else_}
+use Rattle.layout.specs.Layout.{worldWidth}
 use Rattle.layout.specs.Image.{worldAt, goodBytes}
 use Rattle.rules.specs.Steps.{Outcome, refusal, done, stepped}
 use Rattle.layout.specs.Lent.{Lent, left, lentStart, lentStep}
@@ -34,7 +35,7 @@ step-unmoved w kind id value =
 pub start-kept : (w : List ℕ) (mask : ℕ) → (lentStart w mask .answer ≡ 0 → ⊥) → lentStart w mask .buffer ≡ w
 unfolding lentStart Unmoved
 start-kept w mask =
-    cases (Unmoved w) (eqb (length w) 65536)
+    cases (Unmoved w) (eqb (length w) worldWidth)
     (λ _. cases (Unmoved w) (eqb mask 0) (λ _ z. refl) (λ _. cases (Unmoved w) (leb 256 mask) (λ _ z. refl) (λ _ z. absurd (z refl)))) (λ _ z. refl)
 
 Kept : List ℕ → List ℕ → Stepped → Type 0

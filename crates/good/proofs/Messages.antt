@@ -12,6 +12,7 @@ use Rattle.rows.specs.Tests.{allZero}
 use Rattle.rows.proofs.All.{all-fails}
 use Rattle.rules.specs.State.{free, waiting}
 use Rattle.rules.specs.WellFormed.{goodPlace}
+use Rattle.layout.specs.Layout.{messageWidth}
 use Rattle.layout.specs.Image.{placeBytes, rowBytes, rowAt, placeIn}
 use Rattle.layout.proofs.Zeros.{place-zeros}
 use Rattle.state.specs.declared.Body.{Body}
@@ -25,11 +26,11 @@ use Rattle.good.specs.Rows.{held, sent, placeGood}
 use Rattle.good.proofs.Held.{zero-held}
 
 module _ (l : List ℕ) (o : ℕ) where
-  free-good : placeIn (rowAt l o) ≡ free → placeGood l o ≡ allZero l o 80
+  free-good : placeIn (rowAt l o) ≡ free → placeGood l o ≡ allZero l o messageWidth
   unfolding placeGood goodPlace
-  free-good e = rw e (ap (held l o) place-zeros ∙ sym (zero-held l o 80))
+  free-good e = rw e (ap (held l o) place-zeros ∙ sym (zero-held l o messageWidth))
 
-  pub no-kind : getD l o 0 ≡ 0 → placeGood l o ≡ allZero l o 80
+  pub no-kind : getD l o 0 ≡ 0 → placeGood l o ≡ allZero l o messageWidth
   unfolding placeIn rowAt
   no-kind e = free-good (rw e)
 
@@ -37,7 +38,7 @@ module _ (l : List ℕ) (o : ℕ) where
   unfolding placeIn rowAt allZero
   above-kinds h =
       free-good (rw (lt-leb (getD l o 0) 11 h, and-false (leb 1 (getD l o 0))))
-      ∙ all-fails 80 0 (λ k. eqb (getD l (o + k) 0) 0) (omega arith) (rw (add-zero o) (ne-eqb (getD l o 0) 0 (λ z. omega arith)))
+      ∙ all-fails messageWidth 0 (λ k. eqb (getD l (o + k) 0) 0) (omega arith) (rw (add-zero o) (ne-eqb (getD l o 0) 0 (λ z. omega arith)))
 
   module _ (m : Message) (e : messageRow m ≡ rowAt l o) where
     pub kind-is : m .body .kind ≡ getD l o 0

@@ -20,13 +20,14 @@ use Rattle.views.proofs.Truth.{same-truth}
 use Rattle.rules.specs.Sets.{_&&_, _||_, those, all, allHold}
 use Rattle.rules.specs.WellFormed.{distinct}
 use Rattle.rules.proofs.Hold.{hold-facts, hold-tests}
+use Rattle.layout.specs.Layout.{generatorWidth}
 use Rattle.layout.proofs.Fits.{RowsFit}
 use Rattle.layout.proofs.Rows.{rows-back}
 use Rattle.good.specs.Rows.{held, differs}
 use Rattle.good.proofs.Held.{all-tab, all-list, distinct-tab, all-same, held-true, held-fact, zero-part, zero-join, all-none-zero}
 
--- k rows of a table that is at most 592 wide
-pub rows-inside : (k n w : ℕ) → k ≤ n → w ≤ 592 → k * w ≤ n * 592
+-- k rows of a table that is at most generatorWidth wide
+pub rows-inside : (k n w : ℕ) → k ≤ n → w ≤ generatorWidth → k * w ≤ n * generatorWidth
 rows-inside k n w h e = le-trans (mul-le-mul-right w h) (mul-le-mul-left n e)
 
 module _ {A : Type 0} (enc : A → List ℕ) (d : A) (w : ℕ) (wide : (x : A) → length (enc x) ≡ w) (blank : enc d ≡ zeros w)

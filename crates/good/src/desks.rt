@@ -5,6 +5,7 @@ ghost use lib.ListN.{length};
 ghost use Rattle.rows.specs.Tests.{all};
 ghost use Rattle.rules.specs.declared.Phase.the-variants.{Idle, Read1, Read2, Write1, Write2};
 ghost use Rattle.rules.specs.WellFormed.{goodBest, noBest, goodPhase, goodDesk};
+ghost use Rattle.layout.specs.Layout.{deskWidth, worldWidth, deskBegin};
 ghost use Rattle.good.specs.Rows.{deskGood};
 use rules::Desk;
 use rules::Phase;
@@ -102,24 +103,24 @@ fn good_desk(d: Desk) -> bool
 }
 
 fn good_desk_row(w: &[u8], at: usize) -> bool
-    requires { ⌜ at + 64 ≤ length (now w) ⌝ }
+    requires { ⌜ at + deskWidth ≤ length (now w) ⌝ }
     ensures { λ r. ⌜ r ≡ deskGood (now (w .entry)) at ⌝ }
 {
     let d = image::desk_at(w, at);
     if !good_desk(d) {
         return false;
     }
-    let mut row = [0u8; 64];
+    let mut row = [0u8; layout::DESK_WIDTH];
     image::put_desk(&mut row, 0, d);
     super::parts::same_part(&row, w, at)
 }
 
 pub(crate) fn good_desks(w: &[u8]) -> bool
-    requires { ⌜ length (now w) ≡ 65536 ⌝ }
-    ensures { λ r. ⌜ r ≡ all 4 (λ n. deskGood (now (w .entry)) (43520 + n * 64)) ⌝ }
+    requires { ⌜ length (now w) ≡ worldWidth ⌝ }
+    ensures { λ r. ⌜ r ≡ all 4 (λ n. deskGood (now (w .entry)) (deskBegin n)) ⌝ }
 {
-    for n in 0..4usize {
-        if !good_desk_row(w, image::DESKS + n * image::DESK) {
+    for n in 0..rules::DESKS {
+        if !good_desk_row(w, layout::WORLD_DESKS + n * layout::DESK_WIDTH) {
             return false;
         }
     }

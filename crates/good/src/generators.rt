@@ -1,9 +1,11 @@
 // A relay's eight generators.
 ghost use mathlib.Core.Path.{_≡_};
+ghost use mathlib.Core.Bool.{true};
 ghost use Prim.Native.Nat.{_+_, _≤_};
 ghost use lib.ListN.{length};
 ghost use Rattle.views.specs.Row.{viewsOf};
 ghost use Rattle.rules.specs.WellFormed.{goodNote, goodNotes, goodGenerator};
+ghost use Rattle.layout.specs.Layout.{generatorWidth};
 ghost use Rattle.state.specs.Meaning.{notesOf, generatorOf};
 ghost use Rattle.good.specs.Rows.{rowGood};
 use state::Generator;
@@ -66,14 +68,14 @@ fn good_generator(s: u8, g: Generator) -> bool
 }
 
 pub(crate) fn good_generator_row(w: &[u8], s: u8, at: usize) -> bool
-    requires { ⌜ at + 592 ≤ length (now w) ⌝ }
-    ensures { λ r. ⌜ r ≡ rowGood 592 (now (w .entry)) s at ⌝ }
+    requires { ⌜ at + generatorWidth ≤ length (now w) ⌝ }
+    ensures { λ r. ⌜ r ≡ rowGood true (now (w .entry)) s at ⌝ }
 {
     let g = image::generator_at(w, at);
     if !good_generator(s, g) {
         return false;
     }
-    let mut row = [0u8; 592];
+    let mut row = [0u8; layout::GENERATOR_WIDTH];
     image::put_generator(&mut row, 0, g);
     super::parts::same_part(&row, w, at)
 }

@@ -14,7 +14,7 @@ mod transfers;
 pub fn is_good(w: &[u8]) -> bool
     ensures { λ r. ⌜ r ≡ goodBytes (now (w .entry)) ⌝ }
 {
-    if w.len() != image::SIZE {
+    if w.len() != layout::WORLD_WIDTH {
         return false;
     }
     if !relays::good_relays(w) {
@@ -26,5 +26,5 @@ pub fn is_good(w: &[u8]) -> bool
     if !places::good_places(w) {
         return false;
     }
-    rows::is_zero(w, 64256, 1280)
+    rows::is_zero(w, layout::WORLD_ZEROS, layout::WORLD_REST)
 }

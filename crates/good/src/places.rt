@@ -10,6 +10,7 @@ ghost use Rattle.rules.specs.Sets.{_&&_, joins, leaves, member, within};
 ghost use Rattle.rules.specs.Messages.{request, view, proposal, converged, install, state, get, put, viewReply, pairReply, ack};
 ghost use Rattle.rules.specs.State.{waiting};
 ghost use Rattle.rules.specs.WellFormed.{isDesk, goodRequest, goodPlace};
+ghost use Rattle.layout.specs.Layout.{messageWidth, worldWidth, placeBegin};
 ghost use Rattle.state.specs.Meaning.{messageOf};
 ghost use Rattle.good.specs.Rows.{sent, placeGood};
 use stamps::Pair;
@@ -212,12 +213,12 @@ fn good_message(m: Message) -> bool
 }
 
 fn good_place_row(w: &[u8], at: usize) -> bool
-    requires { ⌜ at + 80 ≤ length (now w) ⌝ }
+    requires { ⌜ at + messageWidth ≤ length (now w) ⌝ }
     ensures { λ r. ⌜ r ≡ placeGood (now (w .entry)) at ⌝ }
 {
     let kind = rows::byte_at(w, at);
     if kind == 0 {
-        return rows::is_zero(w, at, image::PLACE);
+        return rows::is_zero(w, at, layout::MESSAGE_WIDTH);
     }
     if 11 < kind {
         return false;
@@ -231,17 +232,17 @@ fn good_place_row(w: &[u8], at: usize) -> bool
         to: m.to,
         body: messages::plain(m.body),
     };
-    let mut row = [0u8; 80];
+    let mut row = [0u8; layout::MESSAGE_WIDTH];
     image::put_message(&mut row, 0, p);
     super::parts::same_part(&row, w, at)
 }
 
 pub(crate) fn good_places(w: &[u8]) -> bool
-    requires { ⌜ length (now w) ≡ 65536 ⌝ }
-    ensures { λ r. ⌜ r ≡ all 256 (λ p. placeGood (now (w .entry)) (43776 + p * 80)) ⌝ }
+    requires { ⌜ length (now w) ≡ worldWidth ⌝ }
+    ensures { λ r. ⌜ r ≡ all 256 (λ p. placeGood (now (w .entry)) (placeBegin p)) ⌝ }
 {
-    for p in 0..256usize {
-        if !good_place_row(w, image::PLACES + p * image::PLACE) {
+    for p in 0..rules::PLACES {
+        if !good_place_row(w, layout::WORLD_PLACES + p * layout::MESSAGE_WIDTH) {
             return false;
         }
     }

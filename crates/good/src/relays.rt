@@ -8,6 +8,7 @@ ghost use lib.ListN.{length};
 ghost use Rattle.rows.specs.Tests.{all};
 ghost use Rattle.rules.specs.Sets.{_&&_, member};
 ghost use Rattle.rules.specs.WellFormed.{implies, sameBool, goodRelay};
+ghost use Rattle.layout.specs.Layout.{headWidth, worldWidth};
 ghost use Rattle.state.specs.Meaning.{relayOf};
 ghost use Rattle.good.specs.Rows.{headGood, relayGood};
 use state::Head;
@@ -49,34 +50,46 @@ fn good_head(s: u8, h: Head) -> bool
 }
 
 fn good_head_row(w: &[u8], s: u8, at: usize) -> bool
-    requires { ⌜ at + 64 ≤ length (now w) ⌝ }
+    requires { ⌜ at + headWidth ≤ length (now w) ⌝ }
     ensures { λ r. ⌜ r ≡ headGood (now (w .entry)) s at ⌝ }
 {
     let h = image::head_at(w, at);
     if !good_head(s, h) {
         return false;
     }
-    let mut row = [0u8; 64];
+    let mut row = [0u8; layout::HEAD_WIDTH];
     image::put_head(&mut row, 0, h);
     super::parts::same_part(&row, w, at)
 }
 
 fn good_relay(w: &[u8], s: u8) -> bool
-    requires { ⌜ (length (now w) ≡ 65536) × (s < 8) ⌝ }
+    requires { ⌜ (length (now w) ≡ worldWidth) × (s < 8) ⌝ }
     ensures { λ r. ⌜ r ≡ relayGood (now (w .entry)) s ⌝ }
 {
-    let at = s as usize * image::RELAY;
+    let at = s as usize * layout::RELAY_WIDTH;
     if !good_head_row(w, s, at) {
         return false;
     }
-    if !super::tables::good_table(w, s, at + image::GENERATORS, image::GENERATOR) {
+    if !super::tables::good_table(
+        w,
+        s,
+        at + layout::RELAY_GENERATORS,
+        true,
+        layout::GENERATOR_WIDTH,
+    ) {
         return false;
     }
-    super::tables::good_table(w, s, at + image::TRANSFERS, image::TRANSFER)
+    super::tables::good_table(
+        w,
+        s,
+        at + layout::RELAY_TRANSFERS,
+        false,
+        layout::TRANSFER_WIDTH,
+    )
 }
 
 pub(crate) fn good_relays(w: &[u8]) -> bool
-    requires { ⌜ length (now w) ≡ 65536 ⌝ }
+    requires { ⌜ length (now w) ≡ worldWidth ⌝ }
     ensures { λ r. ⌜ r ≡ all 8 (relayGood (now (w .entry))) ⌝ }
 {
     for s in 0..8u8 {

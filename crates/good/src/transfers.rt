@@ -1,10 +1,12 @@
 // A relay's eight transfers.
 ghost use mathlib.Core.Path.{_≡_};
+ghost use mathlib.Core.Bool.{false};
 ghost use Prim.Native.Nat.{_+_, _≤_};
 ghost use lib.ListN.{length};
 ghost use Rattle.views.specs.Row.{viewsOf};
 ghost use Rattle.rules.specs.Sets.{_||_, none};
 ghost use Rattle.rules.specs.WellFormed.{goodInstalled, goodTransfer};
+ghost use Rattle.layout.specs.Layout.{transferWidth};
 ghost use Rattle.state.specs.Meaning.{transferOf};
 ghost use Rattle.good.specs.Rows.{rowGood};
 use state::Transfer;
@@ -41,14 +43,14 @@ fn good_transfer(s: u8, t: Transfer) -> bool
 }
 
 pub(crate) fn good_transfer_row(w: &[u8], s: u8, at: usize) -> bool
-    requires { ⌜ at + 80 ≤ length (now w) ⌝ }
-    ensures { λ r. ⌜ r ≡ rowGood 80 (now (w .entry)) s at ⌝ }
+    requires { ⌜ at + transferWidth ≤ length (now w) ⌝ }
+    ensures { λ r. ⌜ r ≡ rowGood false (now (w .entry)) s at ⌝ }
 {
     let t = image::transfer_at(w, at);
     if !good_transfer(s, t) {
         return false;
     }
-    let mut row = [0u8; 80];
+    let mut row = [0u8; layout::TRANSFER_WIDTH];
     image::put_transfer(&mut row, 0, t);
     super::parts::same_part(&row, w, at)
 }

@@ -8,6 +8,11 @@ use native.Mathlib.Omega.{arith}
 use lib.ListN.{length, getD, List·getD-eq-default}
 use Rattle.rows.specs.Bytes.{numberAt, u16At}
 use Rattle.rows.proofs.Laws.{tab-ext}
+use Rattle.layout.specs.Layout.{u16Width, u32Width, sequenceCount, sequenceWidth, pairDesk, pairValue, headEntered, headActive, headView, headKnown}
+use Rattle.layout.specs.Layout.{headPending, headHolds, generatorOwn, generatorConverged, generatorRaised, generatorProposals, generatorConvergences}
+use Rattle.layout.specs.Layout.{transferNew, transferSequence, transferSenders, transferBest, transferGathered, deskPhase, deskView, deskTries, deskHolds}
+use Rattle.layout.specs.Layout.{deskReplied, deskBest, deskAgreed, messageFrom, messageTo, messageFirst, messageSecond, messageTries, messageSequence}
+use Rattle.layout.specs.Layout.{messagePair, messageUpdates}
 use Rattle.layout.specs.Image.{phaseOf, pairAt, deskAt}
 use Rattle.image.specs.Parts.{headAt, countedAt, sequenceRowAt, notesRowAt, generatorRowAt, transferRowAt, messageRowAt}
 
@@ -42,52 +47,56 @@ u16-alike h n = number-alike (on h n) 2
 module _ {l : List ℕ} {i j : ℕ} (h : Alike l i j) where
   pub sequence-alike : sequenceRowAt l i ≡ sequenceRowAt l j
   unfolding sequenceRowAt
-  sequence-alike = rw (tab-ext 15 (countedAt l i) (countedAt l j) (λ k p. rw (h .byte 30, u16-alike h (2 * k))), h .byte 30)
+  sequence-alike = rw (tab-ext 15 (countedAt l i) (countedAt l j) (λ k p. rw (h .byte sequenceCount, u16-alike h (2 * k))), h .byte sequenceCount)
 
   pub pair-alike : pairAt l i ≡ pairAt l j
   unfolding pairAt
-  pair-alike = cc (number-alike h 2, h .byte 2, number-alike (on h 3) 4)
+  pair-alike = cc (number-alike h u16Width, h .byte pairDesk, number-alike (on h pairValue) u32Width)
 
 pub notes-alike : {l : List ℕ} {i j : ℕ} → Alike l i j → notesRowAt l i ≡ notesRowAt l j
 unfolding notesRowAt
-notes-alike {l} {i} {j} h = rw (tab-ext 8 (λ k. sequenceRowAt l (i + k * 31)) (λ k. sequenceRowAt l (j + k * 31)) (λ k p. sequence-alike (on h (k * 31))))
+notes-alike {l} {i} {j} h = rw (tab-ext 8 (λ k. sequenceRowAt l (i + k * sequenceWidth)) (λ k. sequenceRowAt l (j + k * sequenceWidth)) (λ k p. sequence-alike (on h (k * sequenceWidth))))
 
 module _ {l : List ℕ} {i j : ℕ} (h : Alike l i j) where
   pub head-alike : headAt l i ≡ headAt l j
   unfolding headAt
-  head-alike = cc (first h, h .byte 1, h .byte 2, u16-alike h 3, u16-alike h 5, u16-alike h 7, pair-alike (on h 9))
+  head-alike =
+      cc (first h, h .byte headEntered, h .byte headActive, u16-alike h headView, u16-alike h headKnown, u16-alike h headPending, pair-alike (on h headHolds))
 
   pub generator-alike : generatorRowAt l i ≡ generatorRowAt l j
   unfolding generatorRowAt
   generator-alike =
       cc (
         number-alike h 2,
-        sequence-alike (on h 2),
-        sequence-alike (on h 33),
-        sequence-alike (on h 64),
-        notes-alike (on h 95),
-        notes-alike (on h 343),
+        sequence-alike (on h generatorOwn),
+        sequence-alike (on h generatorConverged),
+        sequence-alike (on h generatorRaised),
+        notes-alike (on h generatorProposals),
+        notes-alike (on h generatorConvergences),
       )
 
   pub transfer-alike : transferRowAt l i ≡ transferRowAt l j
   unfolding transferRowAt
-  transfer-alike = cc (number-alike h 2, u16-alike h 2, sequence-alike (on h 4), h .byte 35, pair-alike (on h 36), u16-alike h 43)
+  transfer-alike =
+      cc (number-alike h u16Width, u16-alike h transferNew, sequence-alike (on h transferSequence), h .byte transferSenders, pair-alike (on h transferBest),
+      u16-alike h transferGathered)
 
   pub desk-alike : deskAt l i ≡ deskAt l j
   unfolding deskAt
   desk-alike =
       cc (
         first h,
-        u16-alike h 2,
-        u16-alike h 4,
-        pair-alike (on h 6),
-        h .byte 13,
-        pair-alike (on h 14),
-        h .byte 21,
-        ap phaseOf (h .byte 1),
+        u16-alike h deskView,
+        u16-alike h deskTries,
+        pair-alike (on h deskHolds),
+        h .byte deskReplied,
+        pair-alike (on h deskBest),
+        h .byte deskAgreed,
+        ap phaseOf (h .byte deskPhase),
       )
 
   pub message-alike : messageRowAt l i ≡ messageRowAt l j
   unfolding messageRowAt
   message-alike =
-      cc (first h, h .byte 1, h .byte 2, u16-alike h 3, u16-alike h 5, u16-alike h 7, sequence-alike (on h 9), pair-alike (on h 40), u16-alike h 47)
+      cc (first h, h .byte messageFrom, h .byte messageTo, u16-alike h messageFirst, u16-alike h messageSecond, u16-alike h messageTries,
+      sequence-alike (on h messageSequence), pair-alike (on h messagePair), u16-alike h messageUpdates)

@@ -11,6 +11,7 @@ use Rattle.rows.specs.Bytes.{placed, bytesOf, fieldsOf, cat, sum, zeros}
 use Rattle.rows.proofs.Laws.{put-first, put-then}
 use Rattle.rows.proofs.Numbers.{byte-number, fields-length, zeros-number}
 use Rattle.stamps.specs.declared.Pair.{Pair}
+use Rattle.layout.specs.Layout.{sequenceWidth}
 use Rattle.layout.specs.Image.{flag, pairBytes, sequenceBytes}
 use Rattle.image.proofs.Widths.{length-sequence}
 
@@ -49,11 +50,11 @@ module _ {t : List ℕ} (l : List ℕ) (o : ℕ) {ws xs : List ℕ} {ps : List (
   unfolding cat
   laid-around q {qs = qs} e front back = e ∙ rw (fields front, fields back, append-assoc, cat-append ps (q ∷ qs))
 
--- a row of 80 bytes, written in three: numbers, from byte n on a sequence, and numbers
-pub around : (l l₁ l₂ t : List ℕ) (o n : ℕ) (ws xs q ls ys : List ℕ) → sum ws ≡ n → n + 31 + sum ls ≡ 80 → o + 80 ≤ length l
-    → l₁ ≡ placed l o (fieldsOf ws xs) → l₂ ≡ placed l₁ (o + n) (sequenceBytes q) → t ≡ placed l₂ (o + (n + 31)) (fieldsOf ls ys)
+-- a row written in three: numbers, from byte n on a sequence, and numbers
+pub around : (l l₁ l₂ t : List ℕ) (o n w : ℕ) (ws xs q ls ys : List ℕ) → sum ws ≡ n → n + sequenceWidth + sum ls ≡ w → o + w ≤ length l
+    → l₁ ≡ placed l o (fieldsOf ws xs) → l₂ ≡ placed l₁ (o + n) (sequenceBytes q) → t ≡ placed l₂ (o + (n + sequenceWidth)) (fieldsOf ls ys)
     → t ≡ placed l o ((fieldsOf ws xs ++ sequenceBytes q) ++ fieldsOf ls ys)
-around l l₁ l₂ t o n ws xs q ls ys e f fit e₁ e₂ e₃ =
+around l l₁ l₂ t o n w ws xs q ls ys e f fit e₁ e₂ e₃ =
     let p₁ = put-first (fieldsOf ws xs) l₁ (fields-length ws xs ∙ e) e₁ in
     let p₂ = put-then (sequenceBytes q) l₂ p₁ (length-sequence q) (omega arith) e₂ in
     let p₃ = put-then (fieldsOf ls ys) t p₂ (fields-length ls ys) (omega arith) e₃ in

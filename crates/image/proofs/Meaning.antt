@@ -9,6 +9,8 @@ use borrow.Author.Tests.{lt-ltb}
 use Rattle.rows.specs.Bytes.{tab}
 use Rattle.rows.proofs.Laws.{length-tab, getD-tab}
 use Rattle.views.specs.Row.{viewsOf}
+use Rattle.rules.specs.Sets.{viewCount}
+use Rattle.layout.specs.Layout.{sequenceCount, sequenceWidth, relayGenerators}
 use Rattle.layout.specs.Image.{sequenceAt, generatorAt, transferAt, rowAt}
 use Rattle.state.specs.declared.Generator.{Generator}
 use Rattle.state.specs.declared.Transfer.{Transfer}
@@ -30,9 +32,9 @@ taken-alike n m f g h =
 module _ (l : List ℕ) where
   sequence-means : (i : ℕ) → viewsOf (sequenceRowAt l i) ≡ sequenceAt l i
   unfolding viewsOf sequenceRowAt sequenceAt
-  sequence-means i = taken-alike 15 (getD l (i + 30) 0) _ _ (λ k p. rw (lt-ltb k (getD l (i + 30) 0) p))
+  sequence-means i = taken-alike viewCount (getD l (i + sequenceCount) 0) _ _ (λ k p. rw (lt-ltb k (getD l (i + sequenceCount) 0) p))
 
-  notes-means : (i : ℕ) → notesOf (notesRowAt l i) ≡ tab 8 (λ k. sequenceAt l (i + k * 31))
+  notes-means : (i : ℕ) → notesOf (notesRowAt l i) ≡ tab 8 (λ k. sequenceAt l (i + k * sequenceWidth))
   unfolding notesOf notesRowAt tab
   notes-means i = simp sequence-means
 
@@ -40,7 +42,7 @@ module _ (l : List ℕ) (i : ℕ) where
   pub generator-read : {g : Generator} → g ≡ generatorRowAt l i → generatorOf g ≡ generatorAt l i
   unfolding generatorOf generatorRowAt generatorAt
   generator-read e =
-      rw (e, sequence-means l (i + 2), sequence-means l (i + 33), sequence-means l (i + 64), notes-means l (i + 95), notes-means l (i + 343))
+      rw (e, sequence-means l (i + 2), sequence-means l (i + 33), sequence-means l (i + relayGenerators), notes-means l (i + 95), notes-means l (i + 343))
 
   pub transfer-read : {t : Transfer} → t ≡ transferRowAt l i → transferOf t ≡ transferAt l i
   unfolding transferOf transferRowAt transferAt

@@ -11,6 +11,7 @@ use Rattle.views.specs.Row.{viewsOf}
 use Rattle.rules.specs.Sets.{if_then_else_, _&&_, those}
 use Rattle.rules.specs.State.{Generator, Transfer, free, waiting}
 use Rattle.rules.specs.Messages as rules
+use Rattle.layout.specs.Layout.{generatorWidth, transferWidth, relayGenerators, relayTransfers}
 use Rattle.layout.specs.Image.{bodyRow, bodyIn, placeIn, rowBytes, placeBytes, headBytes, relayAt, generatorAt, transferAt, filledGenerator, filledTransfer}
 use Rattle.layout.proofs.Rows.{addressed, row-of}
 use Rattle.state.specs.declared.Head.{Head}
@@ -22,7 +23,7 @@ use Rattle.image.specs.Parts.{headAt, messageRow}
 
 pub relay-parts : (l : List ℕ) (i : ℕ)
     → relayAt l i
-    ≡ relayOf (headAt l i) (those filledGenerator (tab 8 (λ k. generatorAt l (i + 64 + k * 592)))) (those filledTransfer (tab 8 (λ k. transferAt l (i + 4800 + k * 80))))
+    ≡ relayOf (headAt l i) (those filledGenerator (tab 8 (λ k. generatorAt l (i + relayGenerators + k * generatorWidth)))) (those filledTransfer (tab 8 (λ k. transferAt l (i + relayTransfers + k * transferWidth))))
 unfolding relayAt relayOf headAt
 relay-parts l i = refl
 

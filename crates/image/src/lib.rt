@@ -1,4 +1,4 @@
-// The world's parts in the rows of a lent buffer: each read, and each written over its row. Document 01, "The world"; the layout is rules' Image. Every
+// The world's parts in the rows of a lent buffer: each read, and each written over its row. Document 01, "The world"; where each field stands is crate layout. Every
 // function is total: past the end a buffer reads zero, and a row that does not fit wholly is not written. A row past the end is read as one that begins at the
 // end, so that what is added to its index stays in range.
 ghost use mathlib.Core.Path.{_≡_};
@@ -7,11 +7,15 @@ ghost use Prim.Native.Nat.{_+_, _≤_};
 ghost use lib.ListN.{length};
 ghost use Rattle.rows.specs.Bytes.{placed};
 ghost use Rattle.views.specs.Row.{viewsOf};
+ghost use Rattle.layout.specs.Layout.{generatorWidth};
 ghost use Rattle.layout.specs.Image.{sequenceBytes, pairAt, headBytes, generatorBytes};
 ghost use Rattle.layout.specs.Image.{transferBytes, phaseNumber, phaseOf, deskBytes, deskAt, rowBytes};
 ghost use Rattle.state.specs.Meaning.{notesOf, generatorOf, transferOf, relayOf};
 ghost use Rattle.image.specs.Parts.{notesBytes, headAt, messageRow};
 ghost use Rattle.image.specs.Parts.{sequenceRowAt, notesRowAt, generatorRowAt, transferRowAt, messageRowAt};
+use layout::BYTE;
+use layout::U16;
+use layout::U32;
 use rules::Desk;
 use rules::Phase;
 use stamps::Pair;
@@ -24,36 +28,15 @@ use state::Notes;
 use state::Transfer;
 use views::Sequence;
 
-// Where the rows stand, and how wide they are: "One lent buffer of exactly 65,536 bytes"; docs/DECISIONS.md, 32.
-pub const SIZE: usize = 65536;
-
-pub const RELAY: usize = 5440;
-
-pub const GENERATORS: usize = 64;
-
-pub const GENERATOR: usize = 592;
-
-pub const TRANSFERS: usize = 4800;
-
-pub const TRANSFER: usize = 80;
-
-pub const DESKS: usize = 43520;
-
-pub const DESK: usize = 64;
-
-pub const PLACES: usize = 43776;
-
-pub const PLACE: usize = 80;
-
 pub fn sequence_at(s: &[u8], at: usize) -> Sequence
     ensures { λ r. ⌜ r ≡ sequenceRowAt (now (s .entry)) at ⌝ }
 {
     let a = rows::smaller(at, s.len());
-    let len = rows::byte_at(s, a + 30) as usize;
-    let n = rows::smaller(len, 15);
-    let mut views = [0u16; 15];
+    let len = rows::byte_at(s, a + layout::SEQUENCE_COUNT) as usize;
+    let n = rows::smaller(len, rules::VIEWS);
+    let mut views = [0u16; rules::VIEWS];
     for i in 0..n {
-        views[i] = rows::read_u16(s, a + 2 * i);
+        views[i] = rows::read_u16(s, a + layout::U16_WIDTH * i);
     }
     Sequence { views, len }
 }
@@ -61,19 +44,19 @@ pub fn sequence_at(s: &[u8], at: usize) -> Sequence
 pub fn put_sequence(s: &mut [u8], at: usize, q: Sequence)
     ensures { λ _. ⌜ now (s .exit) ≡ placed (now (s .entry)) at (sequenceBytes (viewsOf q)) ⌝ }
 {
-    if !rows::has_room(s.len(), at, 31) {
+    if !rows::has_room(s.len(), at, layout::SEQUENCE_WIDTH) {
         return;
     }
     let n = views::count(q);
     if n == 0 {
-        rows::clear(s, at, 31);
+        rows::clear(s, at, layout::SEQUENCE_WIDTH);
         return;
     }
-    for i in 0..15usize {
+    for i in 0..rules::VIEWS {
         let v = views::view_at(q, i);
-        rows::put_u16(s, at + 2 * i, v);
+        rows::put_u16(s, at + layout::U16_WIDTH * i, v);
     }
-    rows::put_byte(s, at + 30, n as u8);
+    rows::put_byte(s, at + layout::SEQUENCE_COUNT, n as u8);
 }
 
 pub fn pair_at(s: &[u8], at: usize) -> Pair
@@ -81,8 +64,8 @@ pub fn pair_at(s: &[u8], at: usize) -> Pair
 {
     let a = rows::smaller(at, s.len());
     let count = rows::read_u16(s, a);
-    let desk = rows::byte_at(s, a + 2);
-    let value = rows::read_u32(s, a + 3);
+    let desk = rows::byte_at(s, a + layout::PAIR_DESK);
+    let value = rows::read_u32(s, a + layout::PAIR_VALUE);
     Pair {
         stamp: Stamp { count, desk },
         value,
@@ -94,12 +77,12 @@ pub fn head_at(s: &[u8], at: usize) -> Head
 {
     let a = rows::smaller(at, s.len());
     let alive = rows::byte_at(s, a) == 1;
-    let entered = rows::byte_at(s, a + 1) == 1;
-    let active = rows::byte_at(s, a + 2) == 1;
-    let view = rows::read_u16(s, a + 3);
-    let known = rows::read_u16(s, a + 5);
-    let pending = rows::read_u16(s, a + 7);
-    let holds = pair_at(s, a + 9);
+    let entered = rows::byte_at(s, a + layout::HEAD_ENTERED) == 1;
+    let active = rows::byte_at(s, a + layout::HEAD_ACTIVE) == 1;
+    let view = rows::read_u16(s, a + layout::HEAD_VIEW);
+    let known = rows::read_u16(s, a + layout::HEAD_KNOWN);
+    let pending = rows::read_u16(s, a + layout::HEAD_PENDING);
+    let holds = pair_at(s, a + layout::HEAD_HOLDS);
     Head {
         alive,
         entered,
@@ -115,7 +98,7 @@ pub fn put_head(s: &mut [u8], at: usize, h: Head)
     ensures { λ _. ⌜ now (s .exit) ≡ placed (now (s .entry)) at (headBytes (relayOf h [] [])) ⌝ }
 {
     let holds = h.holds;
-    let widths = [1u8, 1, 1, 2, 2, 2, 2, 1, 4, 48];
+    let widths = [BYTE, BYTE, BYTE, U16, U16, U16, U16, BYTE, U32, layout::HEAD_REST];
     let xs = [
         h.alive as u32,
         h.entered as u32,
@@ -134,9 +117,9 @@ pub fn notes_at(s: &[u8], at: usize) -> Notes
     ensures { λ r. ⌜ r ≡ notesRowAt (now (s .entry)) at ⌝ }
 {
     let a = rows::smaller(at, s.len());
-    let mut of = [views::empty(); 8];
-    for i in 0..8usize {
-        of[i] = sequence_at(s, a + i * 31);
+    let mut of = [views::empty(); rules::RELAYS];
+    for i in 0..rules::RELAYS {
+        of[i] = sequence_at(s, a + i * layout::SEQUENCE_WIDTH);
     }
     Notes { of }
 }
@@ -144,13 +127,13 @@ pub fn notes_at(s: &[u8], at: usize) -> Notes
 pub fn put_notes(s: &mut [u8], at: usize, n: Notes)
     ensures { λ _. ⌜ now (s .exit) ≡ placed (now (s .entry)) at (notesBytes (notesOf n)) ⌝ }
 {
-    if !rows::has_room(s.len(), at, 248) {
+    if !rows::has_room(s.len(), at, layout::NOTES_WIDTH) {
         return;
     }
     let of = n.of;
-    for i in 0..8usize {
+    for i in 0..rules::RELAYS {
         let q = of[i];
-        put_sequence(s, at + i * 31, q);
+        put_sequence(s, at + i * layout::SEQUENCE_WIDTH, q);
     }
 }
 
@@ -159,11 +142,11 @@ pub fn generator_at(s: &[u8], at: usize) -> Generator
 {
     let a = rows::smaller(at, s.len());
     let view = rows::read_u16(s, a);
-    let own = sequence_at(s, a + 2);
-    let converged = sequence_at(s, a + 33);
-    let raised = sequence_at(s, a + 64);
-    let proposals = notes_at(s, a + 95);
-    let convergences = notes_at(s, a + 343);
+    let own = sequence_at(s, a + layout::GENERATOR_OWN);
+    let converged = sequence_at(s, a + layout::GENERATOR_CONVERGED);
+    let raised = sequence_at(s, a + layout::GENERATOR_RAISED);
+    let proposals = notes_at(s, a + layout::GENERATOR_PROPOSALS);
+    let convergences = notes_at(s, a + layout::GENERATOR_CONVERGENCES);
     Generator {
         view,
         own,
@@ -175,7 +158,7 @@ pub fn generator_at(s: &[u8], at: usize) -> Generator
 }
 
 fn put_generator_fields(s: &mut [u8], at: usize, g: Generator)
-    requires { ⌜ at + 592 ≤ length (now s) ⌝ }
+    requires { ⌜ at + generatorWidth ≤ length (now s) ⌝ }
     ensures { λ _. ⌜ now (s .exit) ≡ placed (now (s .entry)) at (generatorBytes (generatorOf g)) ⌝ }
 {
     let own = g.own;
@@ -184,18 +167,18 @@ fn put_generator_fields(s: &mut [u8], at: usize, g: Generator)
     let proposals = g.proposals;
     let convergences = g.convergences;
     rows::put_u16(s, at, g.view);
-    put_sequence(s, at + 2, own);
-    put_sequence(s, at + 33, converged);
-    put_sequence(s, at + 64, raised);
-    put_notes(s, at + 95, proposals);
-    put_notes(s, at + 343, convergences);
-    rows::clear(s, at + 591, 1);
+    put_sequence(s, at + layout::GENERATOR_OWN, own);
+    put_sequence(s, at + layout::GENERATOR_CONVERGED, converged);
+    put_sequence(s, at + layout::GENERATOR_RAISED, raised);
+    put_notes(s, at + layout::GENERATOR_PROPOSALS, proposals);
+    put_notes(s, at + layout::GENERATOR_CONVERGENCES, convergences);
+    rows::clear(s, at + layout::GENERATOR_ZEROS, layout::GENERATOR_REST);
 }
 
 pub fn put_generator(s: &mut [u8], at: usize, g: Generator)
     ensures { λ _. ⌜ now (s .exit) ≡ placed (now (s .entry)) at (generatorBytes (generatorOf g)) ⌝ }
 {
-    if !rows::has_room(s.len(), at, GENERATOR) {
+    if !rows::has_room(s.len(), at, layout::GENERATOR_WIDTH) {
         return;
     }
     put_generator_fields(s, at, g);
@@ -206,11 +189,11 @@ pub fn transfer_at(s: &[u8], at: usize) -> Transfer
 {
     let a = rows::smaller(at, s.len());
     let old = rows::read_u16(s, a);
-    let new = rows::read_u16(s, a + 2);
-    let sequence = sequence_at(s, a + 4);
-    let senders = rows::byte_at(s, a + 35);
-    let best = pair_at(s, a + 36);
-    let gathered = rows::read_u16(s, a + 43);
+    let new = rows::read_u16(s, a + layout::TRANSFER_NEW);
+    let sequence = sequence_at(s, a + layout::TRANSFER_SEQUENCE);
+    let senders = rows::byte_at(s, a + layout::TRANSFER_SENDERS);
+    let best = pair_at(s, a + layout::TRANSFER_BEST);
+    let gathered = rows::read_u16(s, a + layout::TRANSFER_GATHERED);
     Transfer {
         old,
         new,
@@ -226,9 +209,9 @@ pub fn put_transfer(s: &mut [u8], at: usize, t: Transfer)
 {
     let sequence = t.sequence;
     let best = t.best;
-    let widths = [2u8, 2];
+    let widths = [U16, U16];
     let xs = [t.old as u32, t.new as u32];
-    let last = [1u8, 2, 1, 4, 2, 35];
+    let last = [BYTE, U16, BYTE, U32, U16, layout::TRANSFER_REST];
     let ys = [
         t.senders as u32,
         best.stamp.count as u32,
@@ -236,12 +219,12 @@ pub fn put_transfer(s: &mut [u8], at: usize, t: Transfer)
         best.value,
         t.gathered as u32,
     ];
-    if !rows::has_room(s.len(), at, TRANSFER) {
+    if !rows::has_room(s.len(), at, layout::TRANSFER_WIDTH) {
         return;
     }
     rows::put_fields(s, at, &widths, &xs);
-    put_sequence(s, at + 4, sequence);
-    rows::put_fields(s, at + 35, &last, &ys);
+    put_sequence(s, at + layout::TRANSFER_SEQUENCE, sequence);
+    rows::put_fields(s, at + layout::TRANSFER_SENDERS, &last, &ys);
 }
 
 fn phase_number(p: Phase) -> u8
@@ -279,13 +262,13 @@ pub fn desk_at(s: &[u8], at: usize) -> Desk
 {
     let a = rows::smaller(at, s.len());
     let alive = rows::byte_at(s, a) == 1;
-    let phase = phase_of(rows::byte_at(s, a + 1));
-    let view = rows::read_u16(s, a + 2);
-    let tries = rows::read_u16(s, a + 4);
-    let holds = pair_at(s, a + 6);
-    let replied = rows::byte_at(s, a + 13);
-    let best = pair_at(s, a + 14);
-    let agreed = rows::byte_at(s, a + 21) == 1;
+    let phase = phase_of(rows::byte_at(s, a + layout::DESK_PHASE));
+    let view = rows::read_u16(s, a + layout::DESK_VIEW);
+    let tries = rows::read_u16(s, a + layout::DESK_TRIES);
+    let holds = pair_at(s, a + layout::DESK_HOLDS);
+    let replied = rows::byte_at(s, a + layout::DESK_REPLIED);
+    let best = pair_at(s, a + layout::DESK_BEST);
+    let agreed = rows::byte_at(s, a + layout::DESK_AGREED) == 1;
     Desk {
         alive,
         view,
@@ -305,7 +288,21 @@ pub fn put_desk(s: &mut [u8], at: usize, d: Desk)
     let number = phase_number(phase);
     let holds = d.holds;
     let best = d.best;
-    let widths = [1u8, 1, 2, 2, 2, 1, 4, 1, 2, 1, 4, 1, 42];
+    let widths = [
+        BYTE,
+        BYTE,
+        U16,
+        U16,
+        U16,
+        BYTE,
+        U32,
+        BYTE,
+        U16,
+        BYTE,
+        U32,
+        BYTE,
+        layout::DESK_REST,
+    ];
     let xs = [
         d.alive as u32,
         number as u32,
@@ -328,14 +325,14 @@ pub fn message_at(s: &[u8], at: usize) -> Message
 {
     let a = rows::smaller(at, s.len());
     let kind = rows::byte_at(s, a);
-    let from = rows::byte_at(s, a + 1);
-    let to = rows::byte_at(s, a + 2);
-    let first = rows::read_u16(s, a + 3);
-    let second = rows::read_u16(s, a + 5);
-    let tries = rows::read_u16(s, a + 7);
-    let sequence = sequence_at(s, a + 9);
-    let pair = pair_at(s, a + 40);
-    let updates = rows::read_u16(s, a + 47);
+    let from = rows::byte_at(s, a + layout::MESSAGE_FROM);
+    let to = rows::byte_at(s, a + layout::MESSAGE_TO);
+    let first = rows::read_u16(s, a + layout::MESSAGE_FIRST);
+    let second = rows::read_u16(s, a + layout::MESSAGE_SECOND);
+    let tries = rows::read_u16(s, a + layout::MESSAGE_TRIES);
+    let sequence = sequence_at(s, a + layout::MESSAGE_SEQUENCE);
+    let pair = pair_at(s, a + layout::MESSAGE_PAIR);
+    let updates = rows::read_u16(s, a + layout::MESSAGE_UPDATES);
     let body = Body {
         kind,
         first,
@@ -354,7 +351,7 @@ pub fn put_message(s: &mut [u8], at: usize, m: Message)
     let b = m.body;
     let sequence = b.sequence;
     let pair = b.pair;
-    let widths = [1u8, 1, 1, 2, 2, 2];
+    let widths = [BYTE, BYTE, BYTE, U16, U16, U16];
     let xs = [
         b.kind as u32,
         m.from as u32,
@@ -363,17 +360,17 @@ pub fn put_message(s: &mut [u8], at: usize, m: Message)
         b.second as u32,
         b.tries as u32,
     ];
-    let last = [2u8, 1, 4, 2, 31];
+    let last = [U16, BYTE, U32, U16, layout::MESSAGE_REST];
     let ys = [
         pair.stamp.count as u32,
         pair.stamp.desk as u32,
         pair.value,
         b.updates as u32,
     ];
-    if !rows::has_room(s.len(), at, PLACE) {
+    if !rows::has_room(s.len(), at, layout::MESSAGE_WIDTH) {
         return;
     }
     rows::put_fields(s, at, &widths, &xs);
-    put_sequence(s, at + 9, sequence);
-    rows::put_fields(s, at + 40, &last, &ys);
+    put_sequence(s, at + layout::MESSAGE_SEQUENCE, sequence);
+    rows::put_fields(s, at + layout::MESSAGE_PAIR, &last, &ys);
 }

@@ -14,7 +14,7 @@ use Rattle.rows.proofs.Laws.{Holds, holds-left, holds-right, holds-run, holds-b
 use Rattle.rows.proofs.Numbers.{length-bytesOf, holds-u16, holds-u32}
 use Rattle.rows.proofs.Fields.{cat-holds}
 use Rattle.rows.proofs.Tables.{table-holds, table-back}
-use Rattle.rules.specs.Sets.{if_then_else_, those}
+use Rattle.rules.specs.Sets.{if_then_else_, those, viewCount}
 use Rattle.rules.specs.Stamps.{Pair}
 use Rattle.rules.specs.Messages.{Body, request, view, proposal, converged, install, state, get, put, viewReply, pairReply, ack}
 use Rattle.rules.specs.State.{Generator, Transfer, Relay, Place, free, waiting}
@@ -23,6 +23,11 @@ use Rattle.rules.specs.declared.Phase.{Phase}
 use Rattle.rules.specs.declared.Phase.the-variants.{Idle, Read1, Read2, Write1, Write2}
 use Rattle.rules.specs.Generators.{fresh}
 use Rattle.rules.specs.Relays.{freshTransfer}
+use Rattle.layout.specs.Layout.{u16Width, sequenceCount, sequenceWidth, pairDesk, pairValue, headEntered, headActive, headView, headKnown, headPending}
+use Rattle.layout.specs.Layout.{headHolds, generatorOwn, generatorConverged, generatorRaised, generatorProposals, generatorConvergences, generatorWidth}
+use Rattle.layout.specs.Layout.{transferNew, transferSequence, transferSenders, transferBest, transferGathered, transferWidth, relayGenerators}
+use Rattle.layout.specs.Layout.{relayTransfers, deskPhase, deskView, deskTries, deskHolds, deskReplied, deskBest, deskAgreed, messageFrom, messageTo}
+use Rattle.layout.specs.Layout.{messageFirst, messageSecond, messageTries, messageSequence, messagePair, messageUpdates}
 use Rattle.layout.specs.Image.{flag, byte, sequenceBytes, pairBytes, headBytes, generatorBytes, transferBytes, relayBytes, phaseNumber, deskBytes, Row, row, bodyRow, placeRow, rowBytes, placeBytes, flagAt, sequenceAt, pairAt, generatorAt, transferAt, filledGenerator, filledTransfer, relayAt, phaseOf, deskAt, rowAt, bodyIn, placeIn, pairFields, headFields, generatorFields, transferFields, relayFields, deskFields, rowFields}
 use Rattle.rules.proofs.Lists.{those-append}
 use Rattle.layout.proofs.Widths.{length-sequence, pairWidths, pair-widths, headWidths, head-widths, generatorWidths, generator-widths, length-generator, transferWidths, transfer-widths, length-transfer, relayWidths, relay-widths, deskWidths, desk-widths, rowWidths, row-widths}
@@ -44,8 +49,8 @@ pub sequence-back : (l : List ℕ) (o : ℕ) (q : List ℕ) → SequenceFits q �
 unfolding sequenceAt sequenceBytes
 sequence-back l o q f h =
     let views = run 15 (λ k. be16 (getD q k 0)) in
-    let wide : length views ≡ 30 = length-run 2 15 (λ k. be16 (getD q k 0)) (λ k. length-bytesOf 2 (getD q k 0)) in
-    let many : getD l (o + 30) 0 ≡ length q = byte-back l (o + 30) (length q) (holds-right l views (byte (length q)) o 30 wide h) in
+    let wide : length views ≡ sequenceCount = length-run u16Width viewCount (λ k. be16 (getD q k 0)) (λ k. length-bytesOf 2 (getD q k 0)) in
+    let many : getD l (o + sequenceCount) 0 ≡ length q = byte-back l (o + sequenceCount) (length q) (holds-right l views (byte (length q)) o sequenceCount wide h) in
     let read : tab 15 (λ k. u16At l (o + 2 * k)) ≡ tab 15 (λ k. getD q k 0) =
     tab-ext 15 (λ k. u16At l (o + 2 * k)) (λ k. getD q k 0) (λ k p. one k p (holds-left l views (byte (length q)) o h)) in
     rw (many, read) whole
@@ -70,16 +75,16 @@ pair-back l o p f h =
     λ j. record {
       stamp = record {
         count = holds-u16 l o (p .stamp .count) (f .count) (rw (← add-zero o) (at 0 (omega arith))) j;
-        desk = byte-back l (o + 2) (p .stamp .desk) (at 1 (omega arith)) j;
+        desk = byte-back l (o + pairDesk) (p .stamp .desk) (at 1 (omega arith)) j;
       };
-      value = holds-u32 l (o + 3) (p .value) (f .value) (at 2 (omega arith)) j;
+      value = holds-u32 l (o + pairValue) (p .value) (f .value) (at 2 (omega arith)) j;
     }
 
 -- ---- a generator, a transfer
 
-notes-back : (l : List ℕ) (o : ℕ) (ns : List (List ℕ)) → NotesFit ns → Holds l o (table sequenceBytes [] 8 ns) → tab 8 (λ k. sequenceAt l (o + k * 31)) ≡ ns
+notes-back : (l : List ℕ) (o : ℕ) (ns : List (List ℕ)) → NotesFit ns → Holds l o (table sequenceBytes [] 8 ns) → tab 8 (λ k. sequenceAt l (o + k * sequenceWidth)) ≡ ns
 notes-back l o ns f h =
-    table-back sequenceBytes [] 31 8 length-sequence sequenceAt l o SequenceFits (λ p q. sequence-back l p q) ns (f .long) (λ k p. f .each k) h
+    table-back sequenceBytes [] sequenceWidth 8 length-sequence sequenceAt l o SequenceFits (λ p q. sequence-back l p q) ns (f .long) (λ k p. f .each k) h
 
 pub generator-back : (l : List ℕ) (o : ℕ) (g : Generator) → GeneratorFits g → Holds l o (generatorBytes g) → generatorAt l o ≡ g
 unfolding generatorAt generatorBytes
@@ -87,11 +92,11 @@ generator-back l o g f h =
     let at : (i : ℕ) → i < 7 → Holds l (o + sum (take i generatorWidths)) (getD (generatorFields g) i []) = λ i k. cat-holds (generator-widths g) l i o k h in
     λ j. record {
       view = holds-u16 l o (g .view) (f .view) (rw (← add-zero o) (at 0 (omega arith))) j;
-      own = sequence-back l (o + 2) (g .own) (f .own) (at 1 (omega arith)) j;
-      converged = sequence-back l (o + 33) (g .converged) (f .converged) (at 2 (omega arith)) j;
-      raised = sequence-back l (o + 64) (g .raised) (f .raised) (at 3 (omega arith)) j;
-      proposals = notes-back l (o + 95) (g .proposals) (f .proposals) (at 4 (omega arith)) j;
-      convergences = notes-back l (o + 343) (g .convergences) (f .convergences) (at 5 (omega arith)) j;
+      own = sequence-back l (o + generatorOwn) (g .own) (f .own) (at 1 (omega arith)) j;
+      converged = sequence-back l (o + generatorConverged) (g .converged) (f .converged) (at 2 (omega arith)) j;
+      raised = sequence-back l (o + generatorRaised) (g .raised) (f .raised) (at 3 (omega arith)) j;
+      proposals = notes-back l (o + generatorProposals) (g .proposals) (f .proposals) (at 4 (omega arith)) j;
+      convergences = notes-back l (o + generatorConvergences) (g .convergences) (f .convergences) (at 5 (omega arith)) j;
     }
 
 pub transfer-back : (l : List ℕ) (o : ℕ) (t : Transfer) → TransferFits t → Holds l o (transferBytes t) → transferAt l o ≡ t
@@ -100,11 +105,11 @@ transfer-back l o t f h =
     let at : (i : ℕ) → i < 7 → Holds l (o + sum (take i transferWidths)) (getD (transferFields t) i []) = λ i k. cat-holds (transfer-widths t) l i o k h in
     λ j. record {
       old = holds-u16 l o (t .old) (f .old) (rw (← add-zero o) (at 0 (omega arith))) j;
-      new = holds-u16 l (o + 2) (t .new) (f .new) (at 1 (omega arith)) j;
-      sequence = sequence-back l (o + 4) (t .sequence) (f .sequence) (at 2 (omega arith)) j;
-      senders = byte-back l (o + 35) (t .senders) (at 3 (omega arith)) j;
-      best = pair-back l (o + 36) (t .best) (f .best) (at 4 (omega arith)) j;
-      gathered = holds-u16 l (o + 43) (t .gathered) (f .gathered) (at 5 (omega arith)) j;
+      new = holds-u16 l (o + transferNew) (t .new) (f .new) (at 1 (omega arith)) j;
+      sequence = sequence-back l (o + transferSequence) (t .sequence) (f .sequence) (at 2 (omega arith)) j;
+      senders = byte-back l (o + transferSenders) (t .senders) (at 3 (omega arith)) j;
+      best = pair-back l (o + transferBest) (t .best) (f .best) (at 4 (omega arith)) j;
+      gathered = holds-u16 l (o + transferGathered) (t .gathered) (f .gathered) (at 5 (omega arith)) j;
     }
 
 -- ---- a table of which the filled rows count
@@ -157,10 +162,10 @@ module _ (l : List ℕ) (o : ℕ) (r : Relay) (h : Holds l o (relayBytes r)) whe
   pub holds-head : Holds l o (headBytes r)
   holds-head = rw (← add-zero o) (part 0 (omega arith))
 
-  pub holds-generators : Holds l (o + 64) (table generatorBytes (fresh 0) 8 (r .generators))
+  pub holds-generators : Holds l (o + relayGenerators) (table generatorBytes (fresh 0) 8 (r .generators))
   holds-generators = part 1 (omega arith)
 
-  pub holds-transfers : Holds l (o + 4800) (table transferBytes (freshTransfer 0 0) 8 (r .transfers))
+  pub holds-transfers : Holds l (o + relayTransfers) (table transferBytes (freshTransfer 0 0) 8 (r .transfers))
   holds-transfers = part 2 (omega arith)
 
 pub relay-back : (l : List ℕ) (o : ℕ) (r : Relay) → RelayFits r → Holds l o (relayBytes r) → relayAt l o ≡ r
@@ -169,17 +174,17 @@ relay-back l o r f h =
     let at : (i : ℕ) → i < 8 → Holds l (o + sum (take i headWidths)) (getD (headFields r) i []) = λ i k. cat-holds (head-widths r) l i o k (holds-head l o r h) in
     λ j. record {
       alive = flag-back l o (r .alive) (rw (← add-zero o) (at 0 (omega arith))) j;
-      entered = flag-back l (o + 1) (r .entered) (at 1 (omega arith)) j;
-      active = flag-back l (o + 2) (r .active) (at 2 (omega arith)) j;
-      view = holds-u16 l (o + 3) (r .view) (f .view) (at 3 (omega arith)) j;
-      known = holds-u16 l (o + 5) (r .known) (f .known) (at 4 (omega arith)) j;
-      pending = holds-u16 l (o + 7) (r .pending) (f .pending) (at 5 (omega arith)) j;
-      holds = pair-back l (o + 9) (r .holds) (f .holds) (at 6 (omega arith)) j;
+      entered = flag-back l (o + headEntered) (r .entered) (at 1 (omega arith)) j;
+      active = flag-back l (o + headActive) (r .active) (at 2 (omega arith)) j;
+      view = holds-u16 l (o + headView) (r .view) (f .view) (at 3 (omega arith)) j;
+      known = holds-u16 l (o + headKnown) (r .known) (f .known) (at 4 (omega arith)) j;
+      pending = holds-u16 l (o + headPending) (r .pending) (f .pending) (at 5 (omega arith)) j;
+      holds = pair-back l (o + headHolds) (r .holds) (f .holds) (at 6 (omega arith)) j;
       generators =
-          rows-back filledGenerator generatorBytes (fresh 0) 592 length-generator unfilled-generator GeneratorFits generatorAt l (generator-back l) (o + 64)
+          rows-back filledGenerator generatorBytes (fresh 0) generatorWidth length-generator unfilled-generator GeneratorFits generatorAt l (generator-back l) (o + relayGenerators)
           (r .generators) (f .generators) (holds-generators l o r h) j;
       transfers =
-          rows-back filledTransfer transferBytes (freshTransfer 0 0) 80 length-transfer unfilled-transfer TransferFits transferAt l (transfer-back l) (o + 4800)
+          rows-back filledTransfer transferBytes (freshTransfer 0 0) transferWidth length-transfer unfilled-transfer TransferFits transferAt l (transfer-back l) (o + relayTransfers)
           (r .transfers) (f .transfers) (holds-transfers l o r h) j;
     }
 
@@ -198,13 +203,13 @@ desk-back l o d f h =
     let at : (i : ℕ) → i < 9 → Holds l (o + sum (take i deskWidths)) (getD (deskFields d) i []) = λ i k. cat-holds (desk-widths d) l i o k h in
     λ j. record {
       alive = flag-back l o (d .alive) (rw (← add-zero o) (at 0 (omega arith))) j;
-      phase = (ap phaseOf (byte-back l (o + 1) (phaseNumber (d .phase)) (at 1 (omega arith))) ∙ phase-back (d .phase)) j;
-      view = holds-u16 l (o + 2) (d .view) (f .view) (at 2 (omega arith)) j;
-      tries = holds-u16 l (o + 4) (d .tries) (f .tries) (at 3 (omega arith)) j;
-      holds = pair-back l (o + 6) (d .holds) (f .holds) (at 4 (omega arith)) j;
-      replied = byte-back l (o + 13) (d .replied) (at 5 (omega arith)) j;
-      best = pair-back l (o + 14) (d .best) (f .best) (at 6 (omega arith)) j;
-      agreed = flag-back l (o + 21) (d .agreed) (at 7 (omega arith)) j;
+      phase = (ap phaseOf (byte-back l (o + deskPhase) (phaseNumber (d .phase)) (at 1 (omega arith))) ∙ phase-back (d .phase)) j;
+      view = holds-u16 l (o + deskView) (d .view) (f .view) (at 2 (omega arith)) j;
+      tries = holds-u16 l (o + deskTries) (d .tries) (f .tries) (at 3 (omega arith)) j;
+      holds = pair-back l (o + deskHolds) (d .holds) (f .holds) (at 4 (omega arith)) j;
+      replied = byte-back l (o + deskReplied) (d .replied) (at 5 (omega arith)) j;
+      best = pair-back l (o + deskBest) (d .best) (f .best) (at 6 (omega arith)) j;
+      agreed = flag-back l (o + deskAgreed) (d .agreed) (at 7 (omega arith)) j;
     }
 
 -- ---- a message
@@ -215,14 +220,14 @@ row-back l o m f h =
     let at : (i : ℕ) → i < 10 → Holds l (o + sum (take i rowWidths)) (getD (rowFields m) i []) = λ i k. cat-holds (row-widths m) l i o k h in
     λ j. record {
       kind = byte-back l o (m .kind) (rw (← add-zero o) (at 0 (omega arith))) j;
-      from = byte-back l (o + 1) (m .from) (at 1 (omega arith)) j;
-      to = byte-back l (o + 2) (m .to) (at 2 (omega arith)) j;
-      first = holds-u16 l (o + 3) (m .first) (f .first) (at 3 (omega arith)) j;
-      second = holds-u16 l (o + 5) (m .second) (f .second) (at 4 (omega arith)) j;
-      tries = holds-u16 l (o + 7) (m .tries) (f .tries) (at 5 (omega arith)) j;
-      sequence = sequence-back l (o + 9) (m .sequence) (f .sequence) (at 6 (omega arith)) j;
-      pair = pair-back l (o + 40) (m .pair) (f .pair) (at 7 (omega arith)) j;
-      updates = holds-u16 l (o + 47) (m .updates) (f .updates) (at 8 (omega arith)) j;
+      from = byte-back l (o + messageFrom) (m .from) (at 1 (omega arith)) j;
+      to = byte-back l (o + messageTo) (m .to) (at 2 (omega arith)) j;
+      first = holds-u16 l (o + messageFirst) (m .first) (f .first) (at 3 (omega arith)) j;
+      second = holds-u16 l (o + messageSecond) (m .second) (f .second) (at 4 (omega arith)) j;
+      tries = holds-u16 l (o + messageTries) (m .tries) (f .tries) (at 5 (omega arith)) j;
+      sequence = sequence-back l (o + messageSequence) (m .sequence) (f .sequence) (at 6 (omega arith)) j;
+      pair = pair-back l (o + messagePair) (m .pair) (f .pair) (at 7 (omega arith)) j;
+      updates = holds-u16 l (o + messageUpdates) (m .updates) (f .updates) (at 8 (omega arith)) j;
     }
 
 -- a row with another sender and receiver

@@ -17,6 +17,7 @@ use Rattle.rows.proofs.Tables.{table-back}
 use Rattle.rules.specs.Sets.{_&&_, same, all, allHold}
 use Rattle.rules.specs.State.{noRelay, noDesk, free, World}
 use Rattle.rules.specs.WellFormed.{isPair, distinct, goodGenerators, goodTransfers, goodRelay, goodPhase, goodDesk, goodPlace, wellFormed}
+use Rattle.layout.specs.Layout.{relayWidth, deskWidth, messageWidth, worldDesks, worldPlaces, worldWidth, relayBegin, deskBegin, placeBegin}
 use Rattle.layout.specs.Image.{relayBytes, deskBytes, placeRow, placeBytes, image, relayAt, deskAt, rowAt, placeIn, worldAt, goodBytes, worldTables}
 use Rattle.rules.proofs.Hold.{hold-facts, from-at, all-at}
 use Rattle.layout.proofs.Widths.{length-relay, length-desk, length-place, worldWidths, world-widths, length-image}
@@ -74,27 +75,27 @@ module _ (w : World) where
   pub holds-relays : Holds (image w) 0 (table relayBytes noRelay 8 (w .relays))
   holds-relays = part 0 (omega arith)
 
-  pub holds-desks : Holds (image w) 43520 (table deskBytes noDesk 4 (w .desks))
+  pub holds-desks : Holds (image w) worldDesks (table deskBytes noDesk 4 (w .desks))
   holds-desks = part 1 (omega arith)
 
-  pub holds-places : Holds (image w) 43776 (table placeBytes free 256 (w .places))
+  pub holds-places : Holds (image w) worldPlaces (table placeBytes free 256 (w .places))
   holds-places = part 2 (omega arith)
 
   pub fit-back : WorldFits w → worldAt (image w) ≡ w
   unfolding worldAt
   fit-back f = λ j. record { relays = relays j; desks = desks j; places = places j }
     where
-      relays : tab 8 (λ k. relayAt (image w) (k * 5440)) ≡ w .relays
+      relays : tab 8 (λ k. relayAt (image w) (relayBegin k)) ≡ w .relays
       relays =
-          tab-ext 8 (λ k. relayAt (image w) (k * 5440)) (λ k. relayAt (image w) (0 + k * 5440)) (λ k p. ap (relayAt (image w)) (sym (zero-add (k * 5440))))
-          ∙ table-back relayBytes noRelay 5440 8 length-relay relayAt (image w) 0 RelayFits (relay-back (image w)) (w .relays) (f .shaped .relays) (λ k p. f .relay k) holds-relays
+          tab-ext 8 (λ k. relayAt (image w) (relayBegin k)) (λ k. relayAt (image w) (0 + relayBegin k)) (λ k p. ap (relayAt (image w)) (sym (zero-add (relayBegin k))))
+          ∙ table-back relayBytes noRelay relayWidth 8 length-relay relayAt (image w) 0 RelayFits (relay-back (image w)) (w .relays) (f .shaped .relays) (λ k p. f .relay k) holds-relays
 
-      desks : tab 4 (λ k. deskAt (image w) (43520 + k * 64)) ≡ w .desks
-      desks = table-back deskBytes noDesk 64 4 length-desk deskAt (image w) 43520 DeskFits (desk-back (image w)) (w .desks) (f .shaped .desks) (λ k p. f .desk k) holds-desks
+      desks : tab 4 (λ k. deskAt (image w) (deskBegin k)) ≡ w .desks
+      desks = table-back deskBytes noDesk deskWidth 4 length-desk deskAt (image w) worldDesks DeskFits (desk-back (image w)) (w .desks) (f .shaped .desks) (λ k p. f .desk k) holds-desks
 
-      places : tab 256 (λ k. placeIn (rowAt (image w) (43776 + k * 80))) ≡ w .places
+      places : tab 256 (λ k. placeIn (rowAt (image w) (placeBegin k))) ≡ w .places
       places =
-          table-back placeBytes free 80 256 length-place (λ l o. placeIn (rowAt l o)) (image w) 43776 (λ p. RowFits (placeRow p)) (place-back (image w)) (w .places)
+          table-back placeBytes free messageWidth 256 length-place (λ l o. placeIn (rowAt l o)) (image w) worldPlaces (λ p. RowFits (placeRow p)) (place-back (image w)) (w .places)
           (f .shaped .places) (λ k p. f .place k) holds-places
 
   pub world-back : wellFormed w ≡ true → worldAt (image w) ≡ w
@@ -111,14 +112,14 @@ image-injective w v g h e = sym (world-back w g) ∙ ap worldAt e ∙ world-back
 -- ---- good bytes
 
 module _ (b : List ℕ) (good : goodBytes b ≡ true) where
-  parts : (eqb (length b) 65536 ≡ true) × ((wellFormed (worldAt b) ≡ true) × (same (image (worldAt b)) b ≡ true))
+  parts : (eqb (length b) worldWidth ≡ true) × ((wellFormed (worldAt b) ≡ true) × (same (image (worldAt b)) b ≡ true))
   unfolding goodBytes
   parts =
-      let h = and-eq-true-iff (eqb (length b) 65536) (wellFormed (worldAt b) && same (image (worldAt b)) b) .0 good in
+      let h = and-eq-true-iff (eqb (length b) worldWidth) (wellFormed (worldAt b) && same (image (worldAt b)) b) .0 good in
       (h .0, and-eq-true-iff (wellFormed (worldAt b)) (same (image (worldAt b)) b) .0 (h .1))
 
-  pub good-length : length b ≡ 65536
-  good-length = eqb-true (length b) 65536 (parts .0)
+  pub good-length : length b ≡ worldWidth
+  good-length = eqb-true (length b) worldWidth (parts .0)
 
   pub good-formed : wellFormed (worldAt b) ≡ true
   good-formed = parts .1 .0

@@ -12,6 +12,8 @@ use Rattle.rules.specs.Stamps.{zeroPair}
 use Rattle.rules.specs.State.{noRelay, noDesk, free, World}
 use Rattle.rules.specs.Generators.{fresh}
 use Rattle.rules.specs.Relays.{freshTransfer}
+use Rattle.layout.specs.Layout.{byteWidth, sequenceCount, sequenceWidth, headWidth, notesWidth, generatorWidth, transferWidth, relayWidth, deskWidth}
+use Rattle.layout.specs.Layout.{messageWidth, worldWidth}
 use Rattle.layout.specs.Image.{sequenceBytes, pairBytes, headBytes, generatorBytes, transferBytes, relayBytes, deskBytes, rowBytes, placeBytes, image}
 use Rattle.layout.proofs.Fits.{replicate-at}
 
@@ -51,48 +53,48 @@ pub pair-zeros : pairBytes zeroPair ≡ zeros 7
 unfolding pairBytes
 pair-zeros = cat-zeros (more (zeros-number 2) (more one-zero (more (zeros-number 4) none)))
 
-pub sequence-zeros : sequenceBytes [] ≡ zeros 31
+pub sequence-zeros : sequenceBytes [] ≡ zeros sequenceWidth
 unfolding sequenceBytes
 sequence-zeros =
     ap (λ (l : List ℕ). l ++ (0 ∷ [])) (run-zeros 2 (λ k. be16 0) (λ k. zeros-number 2) 15)
-    ∙ ap (λ (l : List ℕ). zeros 30 ++ l) one-zero
-    ∙ zeros-append 30 1
+    ∙ ap (λ (l : List ℕ). zeros sequenceCount ++ l) one-zero
+    ∙ zeros-append sequenceCount byteWidth
 
 -- a table of nothing but d's rows
 module _ {A : Type 0} (enc : A → List ℕ) (d : A) (w : ℕ) (blank : enc d ≡ zeros w) where
   table-zeros : (n m : ℕ) → table enc d n (replicate m d) ≡ zeros (n * w)
   table-zeros n m = run-zeros w (λ k. enc (getD (replicate m d) k d)) (λ k. ap enc (replicate-at m k d) ∙ blank) n
 
-pub generator-zeros : generatorBytes (fresh 0) ≡ zeros 592
+pub generator-zeros : generatorBytes (fresh 0) ≡ zeros generatorWidth
 unfolding generatorBytes fresh
 generator-zeros =
     cat-zeros (more (zeros-number 2) (more sequence-zeros (more sequence-zeros (more sequence-zeros (more notes (more notes (more refl none)))))))
   where
-    notes : table sequenceBytes [] 8 (replicate 8 []) ≡ zeros 248
-    notes = table-zeros sequenceBytes [] 31 sequence-zeros 8 8
+    notes : table sequenceBytes [] 8 (replicate 8 []) ≡ zeros notesWidth
+    notes = table-zeros sequenceBytes [] sequenceWidth sequence-zeros 8 8
 
-pub transfer-zeros : transferBytes (freshTransfer 0 0) ≡ zeros 80
+pub transfer-zeros : transferBytes (freshTransfer 0 0) ≡ zeros transferWidth
 unfolding transferBytes freshTransfer
 transfer-zeros =
     cat-zeros (more (zeros-number 2) (more (zeros-number 2) (more sequence-zeros (more one-zero (more pair-zeros (more (zeros-number 2) (more refl none)))))))
 
-pub relay-zeros : relayBytes noRelay ≡ zeros 5440
+pub relay-zeros : relayBytes noRelay ≡ zeros relayWidth
 unfolding relayBytes headBytes
 relay-zeros =
-    cat-zeros (more head (more (table-zeros generatorBytes (fresh 0) 592 generator-zeros 8 0) (more (table-zeros transferBytes (freshTransfer 0 0) 80 transfer-zeros 8 0) none)))
+    cat-zeros (more head (more (table-zeros generatorBytes (fresh 0) generatorWidth generator-zeros 8 0) (more (table-zeros transferBytes (freshTransfer 0 0) transferWidth transfer-zeros 8 0) none)))
   where
-    head : headBytes noRelay ≡ zeros 64
+    head : headBytes noRelay ≡ zeros headWidth
     head =
         cat-zeros (more one-zero (more one-zero (more one-zero (more (zeros-number 2) (more (zeros-number 2) (more (zeros-number 2)
         (more pair-zeros (more refl none))))))))
 
-pub desk-zeros : deskBytes noDesk ≡ zeros 64
+pub desk-zeros : deskBytes noDesk ≡ zeros deskWidth
 unfolding deskBytes
 desk-zeros =
     cat-zeros (more one-zero (more one-zero (more (zeros-number 2) (more (zeros-number 2) (more pair-zeros (more one-zero (more pair-zeros
     (more one-zero (more refl none)))))))))
 
-pub place-zeros : placeBytes free ≡ zeros 80
+pub place-zeros : placeBytes free ≡ zeros messageWidth
 unfolding placeBytes rowBytes
 place-zeros =
     cat-zeros (more one-zero (more one-zero (more one-zero (more (zeros-number 2) (more (zeros-number 2) (more (zeros-number 2)
@@ -103,8 +105,8 @@ place-zeros =
 abbrev pub noWorld : World
 noWorld = record { relays = replicate 8 noRelay; desks = replicate 4 noDesk; places = replicate 256 free }
 
-pub image-zeros : image noWorld ≡ zeros 65536
+pub image-zeros : image noWorld ≡ zeros worldWidth
 unfolding image
 image-zeros =
-    cat-zeros (more (table-zeros relayBytes noRelay 5440 relay-zeros 8 8) (more (table-zeros deskBytes noDesk 64 desk-zeros 4 4)
-    (more (table-zeros placeBytes free 80 place-zeros 256 256) (more refl none))))
+    cat-zeros (more (table-zeros relayBytes noRelay relayWidth relay-zeros 8 8) (more (table-zeros deskBytes noDesk deskWidth desk-zeros 4 4)
+    (more (table-zeros placeBytes free messageWidth place-zeros 256 256) (more refl none))))

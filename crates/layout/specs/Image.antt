@@ -15,13 +15,12 @@ use Rattle.rules.specs.declared.Phase.the-variants.{Idle, Read1, Read2, Write1,
 use Rattle.rules.specs.Generators.{fresh}
 use Rattle.rules.specs.Relays.{freshTransfer}
 use Rattle.rules.specs.WellFormed.{wellFormed}
-use Rattle.layout.specs.Layout.{u16Width, sequenceCount, sequenceWidth, pairDesk, pairValue, headEntered, headActive, headView}
-use Rattle.layout.specs.Layout.{headKnown, headPending, headHolds, headZeros, headWidth, generatorOwn, generatorConverged}
-use Rattle.layout.specs.Layout.{generatorRaised, generatorProposals, generatorConvergences, generatorZeros, generatorWidth, transferNew}
-use Rattle.layout.specs.Layout.{transferSequence, transferSenders, transferBest, transferGathered, transferZeros, transferWidth, relayGenerators}
-use Rattle.layout.specs.Layout.{relayTransfers, relayWidth, deskPhase, deskView, deskTries, deskHolds, deskReplied, deskBest, deskAgreed}
-use Rattle.layout.specs.Layout.{deskZeros, deskWidth, messageFrom, messageTo, messageFirst, messageSecond, messageTries, messageSequence}
-use Rattle.layout.specs.Layout.{messagePair, messageUpdates, messageZeros, messageWidth, worldDesks, worldPlaces, worldZeros, worldWidth}
+use Rattle.layout.specs.Layout.{u16Width, sequenceCount, sequenceWidth, pairDesk, pairValue, headEntered, headActive, headView, headKnown, headPending}
+use Rattle.layout.specs.Layout.{headHolds, headRest, generatorOwn, generatorConverged, generatorRaised, generatorProposals, generatorConvergences}
+use Rattle.layout.specs.Layout.{generatorWidth, generatorRest, transferNew, transferSequence, transferSenders, transferBest, transferGathered}
+use Rattle.layout.specs.Layout.{transferWidth, transferRest, relayGenerators, relayTransfers, deskPhase, deskView, deskTries, deskHolds, deskReplied}
+use Rattle.layout.specs.Layout.{deskBest, deskAgreed, deskRest, messageFrom, messageTo, messageFirst, messageSecond, messageTries, messageSequence}
+use Rattle.layout.specs.Layout.{messagePair, messageUpdates, messageRest, worldWidth, worldRest, relayBegin, deskBegin, placeBegin}
 
 -- ---- a state in bytes
 
@@ -45,7 +44,7 @@ headFields r =
     flag (r .alive) ∷ flag (r .entered) ∷ flag (r .active)
     ∷ be16 (r .view) ∷ be16 (r .known) ∷ be16 (r .pending)
     ∷ pairBytes (r .holds)
-    ∷ zeros (headWidth - headZeros)
+    ∷ zeros headRest
     ∷ []
 
 unfoldable pub headBytes : Relay → List ℕ
@@ -56,7 +55,7 @@ generatorFields g =
     be16 (g .view)
     ∷ sequenceBytes (g .own) ∷ sequenceBytes (g .converged) ∷ sequenceBytes (g .raised)
     ∷ table sequenceBytes [] relayCount (g .proposals) ∷ table sequenceBytes [] relayCount (g .convergences)
-    ∷ zeros (generatorWidth - generatorZeros)
+    ∷ zeros generatorRest
     ∷ []
 
 unfoldable pub generatorBytes : Generator → List ℕ
@@ -69,7 +68,7 @@ transferFields t =
     ∷ byte (t .senders)
     ∷ pairBytes (t .best)
     ∷ be16 (t .gathered)
-    ∷ zeros (transferWidth - transferZeros)
+    ∷ zeros transferRest
     ∷ []
 
 unfoldable pub transferBytes : Transfer → List ℕ
@@ -101,7 +100,7 @@ deskFields d =
     ∷ byte (d .replied)
     ∷ pairBytes (d .best)
     ∷ flag (d .agreed)
-    ∷ zeros (deskWidth - deskZeros)
+    ∷ zeros deskRest
     ∷ []
 
 unfoldable pub deskBytes : Desk → List ℕ
@@ -147,7 +146,7 @@ rowFields m =
     ∷ sequenceBytes (m .sequence)
     ∷ pairBytes (m .pair)
     ∷ be16 (m .updates)
-    ∷ zeros (messageWidth - messageZeros)
+    ∷ zeros messageRest
     ∷ []
 
 unfoldable pub rowBytes : Row → List ℕ
@@ -161,7 +160,7 @@ worldTables w =
     table relayBytes noRelay relayCount (w .relays)
     ∷ table deskBytes noDesk deskCount (w .desks)
     ∷ table placeBytes free placeCount (w .places)
-    ∷ zeros (worldWidth - worldZeros)
+    ∷ zeros worldRest
     ∷ []
 
 unfoldable pub image : World → List ℕ
@@ -272,9 +271,9 @@ placeIn m =
 unfoldable pub worldAt : List ℕ → World
 worldAt b =
     record {
-      relays = tab relayCount (λ k. relayAt b (k * relayWidth));
-      desks = tab deskCount (λ k. deskAt b (worldDesks + k * deskWidth));
-      places = tab placeCount (λ k. placeIn (rowAt b (worldPlaces + k * messageWidth)));
+      relays = tab relayCount (λ k. relayAt b (relayBegin k));
+      desks = tab deskCount (λ k. deskAt b (deskBegin k));
+      places = tab placeCount (λ k. placeIn (rowAt b (placeBegin k)));
     }
 
 -- ---- "A world is good exactly when its length is right, every field is in range, [..] and the rest is zero."

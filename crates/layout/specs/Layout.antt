@@ -1,6 +1,6 @@
 -- Where each field of a row stands, and how wide each row is: a row's fields in their order, each where the one before it ends. A field more is one line here.
 -- (The first stands where the row begins. What is left up to a row's width is zero.) Numbers are high byte first. Assumes nothing.
-use Prim.Native.Nat.{ℕ, _+_, _*_}
+use Prim.Native.Nat.{ℕ, _+_, _*_, _-_}
 use Rattle.rules.specs.Sets.{viewCount, relayCount, deskCount, placeCount, seatCount}
 
 -- ---- How wide one field is: a flag, a small number or a set of relays; a view, a try or a count; a value
@@ -68,6 +68,9 @@ headZeros = headHolds + pairWidth
 abbrev pub headWidth : ℕ
 headWidth = 64
 
+abbrev pub headRest : ℕ
+headRest = headWidth - headZeros
+
 -- ---- A generator: view, own, converged and raised sequence, the eight's proposals and convergences, a zero
 
 abbrev pub notesWidth : ℕ
@@ -97,6 +100,9 @@ generatorZeros = generatorConvergences + notesWidth
 abbrev pub generatorWidth : ℕ
 generatorWidth = 592
 
+abbrev pub generatorRest : ℕ
+generatorRest = generatorWidth - generatorZeros
+
 -- ---- A transfer: old view, new view, sequence, who has sent state, best stamp and value, updates gathered, zeros
 
 abbrev pub transferOld : ℕ
@@ -123,7 +129,16 @@ transferZeros = transferGathered + u16Width
 abbrev pub transferWidth : ℕ
 transferWidth = 80
 
+abbrev pub transferRest : ℕ
+transferRest = transferWidth - transferZeros
+
 -- ---- A relay: its head, 8 generators, 8 transfers
+
+abbrev pub generatorsWidth : ℕ
+generatorsWidth = seatCount * generatorWidth
+
+abbrev pub transfersWidth : ℕ
+transfersWidth = seatCount * transferWidth
 
 abbrev pub relayHead : ℕ
 relayHead = 0
@@ -132,10 +147,10 @@ abbrev pub relayGenerators : ℕ
 relayGenerators = relayHead + headWidth
 
 abbrev pub relayTransfers : ℕ
-relayTransfers = relayGenerators + seatCount * generatorWidth
+relayTransfers = relayGenerators + generatorsWidth
 
 abbrev pub relayWidth : ℕ
-relayWidth = relayTransfers + seatCount * transferWidth
+relayWidth = relayTransfers + transfersWidth
 
 -- ---- A desk: alive, phase, view, try, stamp and value, who replied, best reply, agreed, zeros
 
@@ -168,6 +183,9 @@ deskZeros = deskAgreed + byteWidth
 
 abbrev pub deskWidth : ℕ
 deskWidth = 64
+
+abbrev pub deskRest : ℕ
+deskRest = deskWidth - deskZeros
 
 -- ---- A message: kind (0: the place is free), sender, receiver, two views, try, sequence, stamp and value, updates, zeros
 
@@ -204,6 +222,9 @@ messageZeros = messageUpdates + u16Width
 abbrev pub messageWidth : ℕ
 messageWidth = 80
 
+abbrev pub messageRest : ℕ
+messageRest = messageWidth - messageZeros
+
 -- ---- "One lent buffer of exactly 65,536 bytes": 8 relays, 4 desks, 256 messages, zeros
 
 abbrev pub worldRelays : ℕ
@@ -220,3 +241,29 @@ worldZeros = worldPlaces + placeCount * messageWidth
 
 abbrev pub worldWidth : ℕ
 worldWidth = 65536
+
+abbrev pub worldRest : ℕ
+worldRest = worldWidth - worldZeros
+
+-- ---- where the rows of a world begin: of the relay s, its generators and transfers, the i-th of each; of the desk n; of the place p
+
+abbrev pub relayBegin : ℕ → ℕ
+relayBegin s = s * relayWidth
+
+abbrev pub generatorsBegin : ℕ → ℕ
+generatorsBegin s = relayBegin s + relayGenerators
+
+abbrev pub transfersBegin : ℕ → ℕ
+transfersBegin s = relayBegin s + relayTransfers
+
+abbrev pub generatorBegin : ℕ → ℕ → ℕ
+generatorBegin s i = generatorsBegin s + i * generatorWidth
+
+abbrev pub transferBegin : ℕ → ℕ → ℕ
+transferBegin s i = transfersBegin s + i * transferWidth
+
+abbrev pub deskBegin : ℕ → ℕ
+deskBegin n = worldDesks + n * deskWidth
+
+abbrev pub placeBegin : ℕ → ℕ
+placeBegin p = worldPlaces + p * messageWidth

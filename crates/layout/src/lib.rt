@@ -3,11 +3,17 @@
 
 // ---- How wide one field is: a flag, a small number or a set of relays; a view, a try or a count; a value
 
-pub const BYTE_WIDTH: usize = 1;
+pub const BYTE: u8 = 1;
 
-pub const U16_WIDTH: usize = 2;
+pub const U16: u8 = 2;
 
-pub const U32_WIDTH: usize = 4;
+pub const U32: u8 = 4;
+
+pub const BYTE_WIDTH: usize = BYTE as usize;
+
+pub const U16_WIDTH: usize = U16 as usize;
+
+pub const U32_WIDTH: usize = U32 as usize;
 
 // ---- A sequence: "at most 15" views, and how many there are
 
@@ -47,6 +53,8 @@ pub const HEAD_ZEROS: usize = HEAD_HOLDS + PAIR_WIDTH;
 
 pub const HEAD_WIDTH: usize = 64;
 
+pub const HEAD_REST: u8 = (HEAD_WIDTH - HEAD_ZEROS) as u8;
+
 // ---- A generator: view, own, converged and raised sequence, the eight's proposals and convergences, a zero
 
 pub const NOTES_WIDTH: usize = rules::RELAYS * SEQUENCE_WIDTH;
@@ -67,6 +75,8 @@ pub const GENERATOR_ZEROS: usize = GENERATOR_CONVERGENCES + NOTES_WIDTH;
 
 pub const GENERATOR_WIDTH: usize = 592;
 
+pub const GENERATOR_REST: usize = GENERATOR_WIDTH - GENERATOR_ZEROS;
+
 // ---- A transfer: old view, new view, sequence, who has sent state, best stamp and value, updates gathered, zeros
 
 pub const TRANSFER_OLD: usize = 0;
@@ -85,15 +95,21 @@ pub const TRANSFER_ZEROS: usize = TRANSFER_GATHERED + U16_WIDTH;
 
 pub const TRANSFER_WIDTH: usize = 80;
 
+pub const TRANSFER_REST: u8 = (TRANSFER_WIDTH - TRANSFER_ZEROS) as u8;
+
 // ---- A relay: its head, 8 generators, 8 transfers
+
+pub const GENERATORS_WIDTH: usize = rules::SEATS * GENERATOR_WIDTH;
+
+pub const TRANSFERS_WIDTH: usize = rules::SEATS * TRANSFER_WIDTH;
 
 pub const RELAY_HEAD: usize = 0;
 
 pub const RELAY_GENERATORS: usize = RELAY_HEAD + HEAD_WIDTH;
 
-pub const RELAY_TRANSFERS: usize = RELAY_GENERATORS + rules::SEATS * GENERATOR_WIDTH;
+pub const RELAY_TRANSFERS: usize = RELAY_GENERATORS + GENERATORS_WIDTH;
 
-pub const RELAY_WIDTH: usize = RELAY_TRANSFERS + rules::SEATS * TRANSFER_WIDTH;
+pub const RELAY_WIDTH: usize = RELAY_TRANSFERS + TRANSFERS_WIDTH;
 
 // ---- A desk: alive, phase, view, try, stamp and value, who replied, best reply, agreed, zeros
 
@@ -116,6 +132,8 @@ pub const DESK_AGREED: usize = DESK_BEST + PAIR_WIDTH;
 pub const DESK_ZEROS: usize = DESK_AGREED + BYTE_WIDTH;
 
 pub const DESK_WIDTH: usize = 64;
+
+pub const DESK_REST: u8 = (DESK_WIDTH - DESK_ZEROS) as u8;
 
 // ---- A message: kind (0: the place is free), sender, receiver, two views, try, sequence, stamp and value, updates, zeros
 
@@ -141,6 +159,8 @@ pub const MESSAGE_ZEROS: usize = MESSAGE_UPDATES + U16_WIDTH;
 
 pub const MESSAGE_WIDTH: usize = 80;
 
+pub const MESSAGE_REST: u8 = (MESSAGE_WIDTH - MESSAGE_ZEROS) as u8;
+
 // ---- "One lent buffer of exactly 65,536 bytes": 8 relays, 4 desks, 256 messages, zeros
 
 pub const WORLD_RELAYS: usize = 0;
@@ -152,3 +172,5 @@ pub const WORLD_PLACES: usize = WORLD_DESKS + rules::DESKS * DESK_WIDTH;
 pub const WORLD_ZEROS: usize = WORLD_PLACES + rules::PLACES * MESSAGE_WIDTH;
 
 pub const WORLD_WIDTH: usize = 65536;
+
+pub const WORLD_REST: usize = WORLD_WIDTH - WORLD_ZEROS;

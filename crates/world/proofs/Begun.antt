@@ -17,6 +17,7 @@ use Rattle.rows.proofs.Laws.{placed-fits}
 use Rattle.rows.proofs.Tables.{splice-whole, length-zeros}
 use Rattle.rules.specs.State.{Relay, noRelay, noDesk, free, World, relayAt, deskAt, withRelay, withDesk, crashedRelay, crashedDesk, startRelay, startDesk, start}
 use Rattle.rules.specs.declared.Desk.{Desk}
+use Rattle.layout.specs.Layout.{deskWidth, worldDesks, worldWidth, relayBegin, deskBegin}
 use Rattle.layout.specs.Image.{headBytes, relayBytes, deskBytes, image, worldAt, goodBytes}
 use Rattle.rules.specs.Messages.{bad-world, bad-step}
 use Rattle.rules.specs.Steps.{noReport, crashing}
@@ -65,21 +66,21 @@ module _ (mask : ℕ) where
   unfolding startRelay
   head-put n = put-head noRelay (startRelay mask n) refl refl
 
-  pub relay-written : (n m : ℕ) → n < 8 → placed (image (begun mask n m)) (n * 5440) (headBytes (startRelay mask n)) ≡ image (begun mask (n + 1) m)
+  pub relay-written : (n m : ℕ) → n < 8 → placed (image (begun mask n m)) (relayBegin n) (headBytes (startRelay mask n)) ≡ image (begun mask (n + 1) m)
   relay-written n m h =
       let w = begun mask n m in
       let r = startRelay mask n in
       let is : relayAt w n ≡ noRelay = unfold begun in no-relay n n (omega arith) in
-      placed-fits (image w) (headBytes r) (n * 5440) (omega (arith, length-head r, length-image w))
-      ∙ ap (λ (k : ℕ). splice (image w) k (headBytes r)) (sym (add-zero (n * 5440)))
+      placed-fits (image w) (headBytes r) (relayBegin n) (omega (arith, length-head r, length-image w))
+      ∙ ap (λ (k : ℕ). splice (image w) k (headBytes r)) (sym (add-zero (relayBegin n)))
       ∙ write-relay w (begun-shaped n m) n 0 (headBytes r) r h (omega (arith, length-head r)) (rw is (head-put n))
       ∙ ap image (relay-more n m)
 
-  pub desk-written : (n m : ℕ) → m < 4 → placed (image (begun mask n m)) (43520 + m * 64) (deskBytes (startDesk mask)) ≡ image (begun mask n (m + 1))
+  pub desk-written : (n m : ℕ) → m < 4 → placed (image (begun mask n m)) (deskBegin m) (deskBytes (startDesk mask)) ≡ image (begun mask n (m + 1))
   desk-written n m h =
       let w = begun mask n m in
       let d = startDesk mask in
-      placed-fits (image w) (deskBytes d) (43520 + m * 64) (omega (arith, length-desk d, length-image w))
+      placed-fits (image w) (deskBytes d) (deskBegin m) (omega (arith, length-desk d, length-image w))
       ∙ put-desk w (begun-shaped n m) m d h
       ∙ ap image (desk-more n m)
 
@@ -87,11 +88,11 @@ module _ (mask : ℕ) where
   unfolding begun relaysTo desksTo start
   begun-all = refl
 
-  pub begun-none : (l : List ℕ) → length l ≡ 65536 → placed l 0 (zeros 65536) ≡ image (begun mask 0 0)
+  pub begun-none : (l : List ℕ) → length l ≡ worldWidth → placed l 0 (zeros worldWidth) ≡ image (begun mask 0 0)
   begun-none l e =
-      let z = length-zeros 65536 in
-      placed-fits l (zeros 65536) 0 (omega arith)
-      ∙ splice-whole l (zeros 65536) (z ∙ sym e)
+      let z = length-zeros worldWidth in
+      placed-fits l (zeros worldWidth) 0 (omega arith)
+      ∙ splice-whole l (zeros worldWidth) (z ∙ sym e)
       ∙ sym image-zeros
       ∙ ap image nothing
     where
@@ -113,7 +114,7 @@ module _ {mask : ℕ} {s₀ : List ℕ} where
   pub relays-none : RelaysTo mask s₀ s₀ 0
   relays-none = record { within = omega arith; long = refl; is = λ e. e }
 
-  pub relays-more : {s : List ℕ} {n : ℕ} (t : List ℕ) → RelaysTo mask s₀ s n → n < 8 → length t ≡ length s → t ≡ placed s (n * 5440) (headBytes (startRelay mask n)) → RelaysTo mask s₀ t (n + 1)
+  pub relays-more : {s : List ℕ} {n : ℕ} (t : List ℕ) → RelaysTo mask s₀ s n → n < 8 → length t ≡ length s → t ≡ placed s (relayBegin n) (headBytes (startRelay mask n)) → RelaysTo mask s₀ t (n + 1)
   relays-more {s} {n} t r h l e = record { within = omega arith; long = l ∙ r .long; is = λ q. e ∙ rw (r .is q) (relay-written mask n 0 h) }
 
   pub relays-all : {s : List ℕ} {n : ℕ} → RelaysTo mask s₀ s n → 8 ≤ n → s₀ ≡ image (begun mask 0 0) → s ≡ image (begun mask 8 0)
@@ -122,7 +123,7 @@ module _ {mask : ℕ} {s₀ : List ℕ} where
   pub desks-none : DesksTo mask s₀ s₀ 0
   desks-none = record { within = omega arith; long = refl; is = λ e. e }
 
-  pub desks-more : {s : List ℕ} {n : ℕ} (t : List ℕ) → DesksTo mask s₀ s n → n < 4 → length t ≡ length s → t ≡ placed s (43520 + n * 64) (deskBytes (startDesk mask)) → DesksTo mask s₀ t (n + 1)
+  pub desks-more : {s : List ℕ} {n : ℕ} (t : List ℕ) → DesksTo mask s₀ s n → n < 4 → length t ≡ length s → t ≡ placed s (deskBegin n) (deskBytes (startDesk mask)) → DesksTo mask s₀ t (n + 1)
   desks-more {s} {n} t r h l e = record { within = omega arith; long = l ∙ r .long; is = λ q. e ∙ rw (r .is q) (desk-written mask 8 n h) }
 
   pub desks-all : {s : List ℕ} {n : ℕ} → DesksTo mask s₀ s n → 4 ≤ n → s₀ ≡ image (begun mask 8 0) → s ≡ image (begun mask 8 4)
@@ -146,18 +147,18 @@ module _ (b : List ℕ) (good : goodBytes b ≡ true) where
   abbrev w : World
   w = worldAt b
 
-  relay-crashed : (s : ℕ) → s < 8 → placed b (s * 5440) (0 ∷ []) ≡ image (withRelay w s (crashedRelay (relayAt w s)))
+  relay-crashed : (s : ℕ) → s < 8 → placed b (relayBegin s) (0 ∷ []) ≡ image (withRelay w s (crashedRelay (relayAt w s)))
   relay-crashed s h =
-      ap (λ (l : List ℕ). placed l (s * 5440) (0 ∷ [])) (sym (good-image b good))
-      ∙ placed-fits (image w) (0 ∷ []) (s * 5440) (omega (arith, length-image w))
-      ∙ ap (λ (k : ℕ). splice (image w) k (0 ∷ [])) (sym (add-zero (s * 5440)))
+      ap (λ (l : List ℕ). placed l (relayBegin s) (0 ∷ [])) (sym (good-image b good))
+      ∙ placed-fits (image w) (0 ∷ []) (relayBegin s) (omega (arith, length-image w))
+      ∙ ap (λ (k : ℕ). splice (image w) k (0 ∷ [])) (sym (add-zero (relayBegin s)))
       ∙ write-relay w (shaped b good) s 0 (0 ∷ []) (crashedRelay (relayAt w s)) h (omega arith) (crash-row (relayAt w s))
 
-  desk-crashed : (n : ℕ) → n < 4 → placed b (43520 + n * 64) (0 ∷ []) ≡ image (withDesk w n (crashedDesk (deskAt w n)))
+  desk-crashed : (n : ℕ) → n < 4 → placed b (deskBegin n) (0 ∷ []) ≡ image (withDesk w n (crashedDesk (deskAt w n)))
   desk-crashed n h =
-      ap (λ (l : List ℕ). placed l (43520 + n * 64) (0 ∷ [])) (sym (good-image b good))
-      ∙ placed-fits (image w) (0 ∷ []) (43520 + n * 64) (omega (arith, length-image w))
-      ∙ ap (λ (k : ℕ). splice (image w) (43520 + k) (0 ∷ [])) (sym (add-zero (n * 64)))
+      ap (λ (l : List ℕ). placed l (deskBegin n) (0 ∷ [])) (sym (good-image b good))
+      ∙ placed-fits (image w) (0 ∷ []) (deskBegin n) (omega (arith, length-image w))
+      ∙ ap (λ (k : ℕ). splice (image w) (worldDesks + k) (0 ∷ [])) (sym (add-zero (n * deskWidth)))
       ∙ write-desk w (shaped b good) n 0 (0 ∷ []) (crashedDesk (deskAt w n)) h (omega arith) (crash-seat (deskAt w n))
 
   pub crash-left : (who : ℕ) → who < 12 → (l : List ℕ) → l ≡ placed b (rowOf who) (0 ∷ []) → accepted noReport l ≡ left b (crashing w who)
@@ -168,18 +169,18 @@ module _ (b : List ℕ) (good : goodBytes b ≡ true) where
 -- ---- what is left of a start
 
 module _ (b : List ℕ) (mask : ℕ) where
-  pub start-misfit : length b ≢ 65536 → kept bad-world b ≡ lentStart b mask
+  pub start-misfit : length b ≢ worldWidth → kept bad-world b ≡ lentStart b mask
   unfolding lentStart
-  start-misfit h = rw (ne-eqb (length b) 65536 h)
+  start-misfit h = rw (ne-eqb (length b) worldWidth h)
 
-  module _ (long : length b ≡ 65536) where
+  module _ (long : length b ≡ worldWidth) where
     pub start-none : mask ≡ 0 → kept bad-step b ≡ lentStart b mask
     unfolding lentStart
-    start-none e = rw (eq-eqb (length b) 65536 long, eq-eqb mask 0 e)
+    start-none e = rw (eq-eqb (length b) worldWidth long, eq-eqb mask 0 e)
 
-    pub start-done : mask ≢ 0 → mask < 256 → (x y z : List ℕ) → x ≡ placed b 0 (zeros 65536) → (x ≡ image (begun mask 0 0) → y ≡ image (begun mask 8 0)) → (y ≡ image (begun mask 8 0) → z ≡ image (begun mask 8 4))
+    pub start-done : mask ≢ 0 → mask < 256 → (x y z : List ℕ) → x ≡ placed b 0 (zeros worldWidth) → (x ≡ image (begun mask 0 0) → y ≡ image (begun mask 8 0)) → (y ≡ image (begun mask 8 0) → z ≡ image (begun mask 8 4))
         → accepted noReport z ≡ lentStart b mask
     unfolding lentStart
     start-done h k x y z e f g =
-        rw (eq-eqb (length b) 65536 long, ne-eqb mask 0 h, lt-leb 256 mask k)
+        rw (eq-eqb (length b) worldWidth long, ne-eqb mask 0 h, lt-leb 256 mask k)
         (ap (accepted noReport) (g (f (e ∙ begun-none mask b long)) ∙ ap image (begun-all mask)))

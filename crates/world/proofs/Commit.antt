@@ -16,6 +16,7 @@ use Rattle.rules.specs.State.{Relay, noRelay, noDesk, World, relayAt, withRelay
 use Rattle.rules.specs.declared.Desk.{Desk}
 use Rattle.rules.specs.Sending.{placeAll, freeIn}
 use Rattle.rules.specs.Steps.{reports, roomy, relayDoes, deskDoes, freed}
+use Rattle.layout.specs.Layout.{deskBegin}
 use Rattle.layout.specs.Image.{deskBytes, image, worldAt, goodBytes}
 use Rattle.layout.specs.Lent.{kept}
 use Rattle.rules.proofs.Kept.{places-length}
@@ -142,11 +143,11 @@ module _ (b : List ℕ) (good : goodBytes b ≡ true) (p s k : ℕ) (a : Answer 
   relay-done r t l q = rw (to-do .is, to-do .out s, room-of b good p d plan s ∙ r, t, q, relay-freed w p s made)
 
 module _ (b : List ℕ) (good : goodBytes b ≡ true) (n : ℕ) where
-  pub desk-put : n < 4 → (d : Desk) → placed b (43520 + n * 64) (deskBytes d) ≡ image (withDesk (worldAt b) n d)
+  pub desk-put : n < 4 → (d : Desk) → placed b (deskBegin n) (deskBytes d) ≡ image (withDesk (worldAt b) n d)
   desk-put h d =
       let w = worldAt b in
-      ap (λ (l : List ℕ). placed l (43520 + n * 64) (deskBytes d)) (sym (good-image b good))
-      ∙ placed-fits (image w) (deskBytes d) (43520 + n * 64) (omega (arith, length-desk d, length-image w))
+      ap (λ (l : List ℕ). placed l (deskBegin n) (deskBytes d)) (sym (good-image b good))
+      ∙ placed-fits (image w) (deskBytes d) (deskBegin n) (omega (arith, length-desk d, length-image w))
       ∙ put-desk w (shaped b good) n d h
 
 module _ (b : List ℕ) (good : goodBytes b ≡ true) (p n k : ℕ) (a : Answer Desk) (plan : Planned Desk)

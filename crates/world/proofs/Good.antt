@@ -18,6 +18,7 @@ use Rattle.rules.specs.Generators.{fresh}
 use Rattle.rules.specs.Relays.{freshTransfer, isFor}
 use Rattle.rules.specs.Steps.{aliveIn}
 use Rattle.rules.specs.WellFormed.{goodRelay, goodPlace, wellFormed}
+use Rattle.layout.specs.Layout.{headView, transferNew, relayBegin, generatorsBegin, transfersBegin, generatorBegin, transferBegin, deskBegin, placeBegin}
 use Rattle.layout.specs.Image.{generatorAt, transferAt, relayAt, deskAt, rowAt, placeIn, worldAt, goodBytes}
 use Rattle.rules.proofs.Hold.{hold-facts, from-at, all-at}
 use Rattle.layout.proofs.Fits.{RelayFits}
@@ -36,28 +37,28 @@ use Rattle.world.proofs.Lists.{seat-found}
 -- ---- whatever the bytes are
 
 module _ (b : List ℕ) where
-  pub relay-at : (s : ℕ) → s < 8 → state.relayAt (worldAt b) s ≡ relayAt b (s * 5440)
+  pub relay-at : (s : ℕ) → s < 8 → state.relayAt (worldAt b) s ≡ relayAt b (relayBegin s)
   unfolding worldAt
-  relay-at s h = getD-tab 8 s (λ k. relayAt b (k * 5440)) noRelay h
+  relay-at s h = getD-tab 8 s (λ k. relayAt b (relayBegin k)) noRelay h
 
-  pub desk-at : (n : ℕ) → n < 4 → state.deskAt (worldAt b) n ≡ deskAt b (43520 + n * 64)
+  pub desk-at : (n : ℕ) → n < 4 → state.deskAt (worldAt b) n ≡ deskAt b (deskBegin n)
   unfolding worldAt
-  desk-at n h = getD-tab 4 n (λ k. deskAt b (43520 + k * 64)) noDesk h
+  desk-at n h = getD-tab 4 n (λ k. deskAt b (deskBegin k)) noDesk h
 
-  pub place-at : (p : ℕ) → p < 256 → state.placeAt (worldAt b) p ≡ placeIn (rowAt b (43776 + p * 80))
+  pub place-at : (p : ℕ) → p < 256 → state.placeAt (worldAt b) p ≡ placeIn (rowAt b (placeBegin p))
   unfolding worldAt
-  place-at p h = getD-tab 256 p (λ k. placeIn (rowAt b (43776 + k * 80))) free h
+  place-at p h = getD-tab 256 p (λ k. placeIn (rowAt b (placeBegin k))) free h
 
   pub alive-row : (who : ℕ) → who < 12 → eqb (getD b (rowOf who) 0) 1 ≡ aliveIn (worldAt b) who
   unfolding relayAt deskAt
   alive-row who h = ⊎-elim (λ t. rw t (rw (relay-at who (ltb-true who 8 t)))) (λ t. rw t (rw (desk-at (who - 8) (omega (arith, ltb-false who 8 t))))) (decided (ltb who 8))
 
-  pub view-at : (s : ℕ) → s < 8 → u16At b (s * 5440 + 3) ≡ state.relayAt (worldAt b) s .view
+  pub view-at : (s : ℕ) → s < 8 → u16At b (relayBegin s + headView) ≡ state.relayAt (worldAt b) s .view
   unfolding relayAt
   view-at s h = rw (relay-at s h)
 
   -- a relay is its head, with its tables
-  pub head-with : (s : ℕ) → s < 8 → (gs : List Generator) (ts : List Transfer) → relayOf (headAt b (s * 5440)) gs ts ≡ withTables (state.relayAt (worldAt b) s) gs ts
+  pub head-with : (s : ℕ) → s < 8 → (gs : List Generator) (ts : List Transfer) → relayOf (headAt b (relayBegin s)) gs ts ≡ withTables (state.relayAt (worldAt b) s) gs ts
   unfolding relayOf headAt relayAt
   head-with s h gs ts = rw (relay-at s h)
 
@@ -85,21 +86,21 @@ module _ (b : List ℕ) (good : goodBytes b ≡ true) where
     rows : RelayFits r
     rows = fitting .relay s
 
-    pub generator-row : (i : ℕ) → i < 8 → generatorAt b (s * 5440 + 64 + i * 592) ≡ getD (r .generators) i (fresh 0)
-    generator-row i h = ap (λ (l : List ℕ). generatorAt l (s * 5440 + 64 + i * 592)) (sym (good-image b good)) ∙ read-generator (worldAt b) fitting s i hs h
+    pub generator-row : (i : ℕ) → i < 8 → generatorAt b (generatorBegin s i) ≡ getD (r .generators) i (fresh 0)
+    generator-row i h = ap (λ (l : List ℕ). generatorAt l (generatorBegin s i)) (sym (good-image b good)) ∙ read-generator (worldAt b) fitting s i hs h
 
-    pub transfer-row : (i : ℕ) → i < 8 → transferAt b (s * 5440 + 4800 + i * 80) ≡ getD (r .transfers) i (freshTransfer 0 0)
-    transfer-row i h = ap (λ (l : List ℕ). transferAt l (s * 5440 + 4800 + i * 80)) (sym (good-image b good)) ∙ read-transfer (worldAt b) fitting s i hs h
+    pub transfer-row : (i : ℕ) → i < 8 → transferAt b (transferBegin s i) ≡ getD (r .transfers) i (freshTransfer 0 0)
+    transfer-row i h = ap (λ (l : List ℕ). transferAt l (transferBegin s i)) (sym (good-image b good)) ∙ read-transfer (worldAt b) fitting s i hs h
 
-    row-view : (i : ℕ) → i < 8 → u16At b (s * 5440 + 64 + i * 592) ≡ getD (r .generators) i (fresh 0) .view
+    row-view : (i : ℕ) → i < 8 → u16At b (generatorBegin s i) ≡ getD (r .generators) i (fresh 0) .view
     unfolding generatorAt
     row-view i h = ap (λ (g : Generator). g .view) (generator-row i h)
 
-    row-old : (i : ℕ) → i < 8 → u16At b (s * 5440 + 4800 + i * 80) ≡ getD (r .transfers) i (freshTransfer 0 0) .old
+    row-old : (i : ℕ) → i < 8 → u16At b (transferBegin s i) ≡ getD (r .transfers) i (freshTransfer 0 0) .old
     unfolding transferAt
     row-old i h = ap (λ (t : Transfer). t .old) (transfer-row i h)
 
-    row-new : (i : ℕ) → i < 8 → u16At b (s * 5440 + 4800 + i * 80 + 2) ≡ getD (r .transfers) i (freshTransfer 0 0) .new
+    row-new : (i : ℕ) → i < 8 → u16At b (transferBegin s i + transferNew) ≡ getD (r .transfers) i (freshTransfer 0 0) .new
     unfolding transferAt
     row-new i h = ap (λ (t : Transfer). t .new) (transfer-row i h)
 
@@ -110,22 +111,22 @@ module _ (b : List ℕ) (good : goodBytes b ≡ true) where
     filled-new i h = not-true _ (rows .transfers .full i h)
 
     -- what the search for a seat finds
-    pub seat-view : (v i : ℕ) → First 8 (endsView b (s * 5440 + 64) v) i → seatOfView v (r .generators) ≡ i
+    pub seat-view : (v i : ℕ) → First 8 (endsView b (generatorsBegin s) v) i → seatOfView v (r .generators) ≡ i
     unfolding endsView fresh
     seat-view v i f =
-        seat-found (r .generators) (fresh 0) (λ g. eqb (g .view) 0) (λ g. eqb (g .view) v) 8 (endsView b (s * 5440 + 64) v)
+        seat-found (r .generators) (fresh 0) (λ g. eqb (g .view) 0) (λ g. eqb (g .view) v) 8 (endsView b (generatorsBegin s) v)
         (rows .generators .few) refl filled-view (λ k h. rw (row-view k h)) i f
 
-    pub seat-move : (o n i : ℕ) → First 8 (endsMove b (s * 5440 + 4800) o n) i → seatOfMove (move o n) (r .transfers) ≡ i
+    pub seat-move : (o n i : ℕ) → First 8 (endsMove b (transfersBegin s) o n) i → seatOfMove (move o n) (r .transfers) ≡ i
     unfolding endsMove freshTransfer
     seat-move o n i f =
-        seat-found (r .transfers) (freshTransfer 0 0) (λ t. eqb (t .new) 0) (isFor o n) 8 (endsMove b (s * 5440 + 4800) o n)
+        seat-found (r .transfers) (freshTransfer 0 0) (λ t. eqb (t .new) 0) (isFor o n) 8 (endsMove b (transfersBegin s) o n)
         (rows .transfers .few) refl filled-new (λ k h. rw (row-new k h, row-old k h)) i f
 
     -- so what the part shows
     module _ (v : ℕ) (m : Move) (i : ℕ) (there : Bool) (g : Generator) where
-      pub generators-shown : First 8 (endsView b (s * 5440 + 64) v) i → there ≡ (ltb i 8 && not (eqb (u16At b (s * 5440 + 64 + i * 592)) 0))
-          → (there ≡ true → g ≡ generatorAt b (s * 5440 + 64 + i * 592)) → asList there g ≡ narrow r v m .generators
+      pub generators-shown : First 8 (endsView b (generatorsBegin s) v) i → there ≡ (ltb i 8 && not (eqb (u16At b (generatorBegin s i)) 0))
+          → (there ≡ true → g ≡ generatorAt b (generatorBegin s i)) → asList there g ≡ narrow r v m .generators
       generators-shown f e k =
           let at = seat-view v i f in
           let few = rows .generators .few in
@@ -136,7 +137,7 @@ module _ (b : List ℕ) (good : goodBytes b ≡ true) where
               let t : there ≡ true = e ∙ rw (lt-ltb i 8 l, row-view i l, filled-view i h) in
               rw (t, k t, generator-row i l, generator-there s r (good-relay s) v m (rw at h), at)
 
-          none : i ≡ length (r .generators) → ltb i 8 && not (eqb (u16At b (s * 5440 + 64 + i * 592)) 0) ≡ false
+          none : i ≡ length (r .generators) → ltb i 8 && not (eqb (u16At b (generatorBegin s i)) 0) ≡ false
           none h =
               ⊎-elim (λ l. let q = row-view i (ltb-true i 8 l) ∙ ap (λ (x : Generator). x .view) (List·getD-eq-default (r .generators) (fresh 0) {n = i} (omega arith)) in rw (l, q) (unfold fresh in refl)) (λ l. rw l) (decided (ltb i 8))
 
@@ -144,8 +145,8 @@ module _ (b : List ℕ) (good : goodBytes b ≡ true) where
           no at h = rw (e ∙ none h, generator-absent s r (good-relay s) v m (at ∙ h))
 
     module _ (v o n i : ℕ) (there : Bool) (t : Transfer) where
-      pub transfers-shown : First 8 (endsMove b (s * 5440 + 4800) o n) i → there ≡ (ltb i 8 && not (eqb (u16At b (s * 5440 + 4800 + i * 80 + 2)) 0))
-          → t ≡ transferAt b (s * 5440 + 4800 + i * 80) → asList there t ≡ narrow r v (move o n) .transfers
+      pub transfers-shown : First 8 (endsMove b (transfersBegin s) o n) i → there ≡ (ltb i 8 && not (eqb (u16At b (transferBegin s i + transferNew)) 0))
+          → t ≡ transferAt b (transferBegin s i) → asList there t ≡ narrow r v (move o n) .transfers
       transfers-shown f e k =
           let at = seat-move o n i f in
           let few = rows .transfers .few in
@@ -156,14 +157,14 @@ module _ (b : List ℕ) (good : goodBytes b ≡ true) where
               let q : there ≡ true = e ∙ rw (lt-ltb i 8 l, row-new i l, filled-new i h) in
               rw (q, k, transfer-row i l, transfer-there s r (good-relay s) v (move o n) (rw at h), at)
 
-          none : i ≡ length (r .transfers) → ltb i 8 && not (eqb (u16At b (s * 5440 + 4800 + i * 80 + 2)) 0) ≡ false
+          none : i ≡ length (r .transfers) → ltb i 8 && not (eqb (u16At b (transferBegin s i + transferNew)) 0) ≡ false
           none h =
               ⊎-elim (λ l. let q = row-new i (ltb-true i 8 l) ∙ ap (λ (x : Transfer). x .new) (List·getD-eq-default (r .transfers) (freshTransfer 0 0) {n = i} (omega arith)) in rw (l, q) (unfold freshTransfer in refl)) (λ l. rw l) (decided (ltb i 8))
 
           no : seatOfMove (move o n) (r .transfers) ≡ i → i ≡ length (r .transfers) → asList there t ≡ narrow r v (move o n) .transfers
           no at h = rw (e ∙ none h, transfer-absent s r (good-relay s) v (move o n) (at ∙ h))
 
-    pub part-is : (v : ℕ) (m : Move) (h : Head) (gs : List Generator) (ts : List Transfer) → h ≡ headAt b (s * 5440) → gs ≡ narrow r v m .generators → ts ≡ narrow r v m .transfers
+    pub part-is : (v : ℕ) (m : Move) (h : Head) (gs : List Generator) (ts : List Transfer) → h ≡ headAt b (relayBegin s) → gs ≡ narrow r v m .generators → ts ≡ narrow r v m .transfers
         → relayOf h gs ts ≡ narrow r v m
     unfolding narrow
     part-is v m h gs ts eh eg et = rw (eh, eg, et) (head-with b s hs _ _)

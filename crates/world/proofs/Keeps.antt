@@ -10,6 +10,7 @@ use Rattle.rules.specs.State.{start}
 use Rattle.rules.specs.declared.Step.{Step}
 use Rattle.rules.specs.Steps.{Outcome, refusal, done, after, stepped}
 use Rattle.rules.specs.WellFormed.{wellFormed}
+use Rattle.layout.specs.Layout.{worldWidth}
 use Rattle.layout.specs.Image.{worldAt, goodBytes}
 use Rattle.layout.specs.Lent.{left, lentStep, lentStart}
 use Rattle.rules.proofs.Kept.{step-keeps}
@@ -25,7 +26,7 @@ module _ (b : List ℕ) where
       go (refusal x) e = good
       go (done w r s d f) e = image-good w e
 
-  pub start-stays : length b ≡ 65536 → (mask : ℕ) → 0 < mask → mask < 256 → goodBytes (lentStart b mask .buffer) ≡ true
+  pub start-stays : length b ≡ worldWidth → (mask : ℕ) → 0 < mask → mask < 256 → goodBytes (lentStart b mask .buffer) ≡ true
   unfolding lentStart
   start-stays long mask low high =
-      rw (eq-eqb (length b) 65536 long, ne-eqb mask 0 (λ (z : mask ≡ 0). omega arith), lt-leb 256 mask high) (image-good (start mask) (start-good mask low high))
+      rw (eq-eqb (length b) worldWidth long, ne-eqb mask 0 (λ (z : mask ≡ 0). omega arith), lt-leb 256 mask high) (image-good (start mask) (start-good mask low high))

@@ -11,6 +11,7 @@ use Rattle.views.specs.Row.{viewsOf}
 use Rattle.rules.specs.Sets.{those, inside}
 use Rattle.rules.specs.State as state
 use Rattle.rules.specs.Relays.{freshTransfer}
+use Rattle.layout.specs.Layout.{transferWidth}
 use Rattle.layout.specs.Image.{transferAt}
 use Rattle.layout.proofs.Fits.{replicate-at}
 use Rattle.rows.proofs.Change.{changed-add}
@@ -55,16 +56,16 @@ module _ {l : List ℕ} {at v : ℕ} where
 
   module _ {i n : ℕ} {xs : List state.Transfer} (kept : KeptTo l at v i n xs) (h : i < 8) where
     abbrev row : state.Transfer
-    row = transferAt l (at + i * 80)
+    row = transferAt l (at + i * transferWidth)
 
     pub kept-no : inside v (row .new) ≡ false → KeptTo l at v (i + 1) n xs
     kept-no e =
-        let q : keptRows l at v (i + 1) ≡ keptRows l at v i = unfold keptRows in (those-same (λ t. inside v (t .new)) (λ k. transferAt l (at + k * 80)) i e) in
+        let q : keptRows l at v (i + 1) ≡ keptRows l at v i = unfold keptRows in (those-same (λ t. inside v (t .new)) (λ k. transferAt l (at + k * transferWidth)) i e) in
         record { within = omega arith; few = omega (arith, kept .few); count = rw q (kept .count); long = kept .long; same = rw q (kept .same) }
 
     pub kept-yes : (t : state.Transfer) → t ≡ row → inside v (row .new) ≡ true → KeptTo l at v (i + 1) (n + 1) (set xs n t)
     kept-yes t is e =
-        let q : keptRows l at v (i + 1) ≡ keptRows l at v i ++ (row ∷ []) = unfold keptRows in (those-more (λ t. inside v (t .new)) (λ k. transferAt l (at + k * 80)) i e) in
+        let q : keptRows l at v (i + 1) ≡ keptRows l at v i ++ (row ∷ []) = unfold keptRows in (those-more (λ t. inside v (t .new)) (λ k. transferAt l (at + k * transferWidth)) i e) in
         record {
           within = omega arith;
           few = omega (arith, kept .few);

@@ -21,6 +21,7 @@ use Rattle.rules.specs.Messages.{Message, Sending, copies}
 use Rattle.rules.specs.State.{Place, free, waiting, World, placeAt, withPlaces}
 use Rattle.rules.specs.Sending.{place, placeAll, freeIn}
 use Rattle.rules.specs.Steps.{freed}
+use Rattle.layout.specs.Layout.{messageWidth, placeBegin}
 use Rattle.layout.specs.Image.{placeRow, rowBytes, placeBytes, image}
 use Rattle.rules.specs.Table.{isFree}
 use Rattle.rules.proofs.Kept.{places-length}
@@ -74,7 +75,7 @@ free-to-all (waiting m ∷ ps) = omega (arith, free-to-more (waiting m) ps (leng
 module _ (w : World) where
   pub free-row : (p : ℕ) → p < 256 → freeRow (image w) p ≡ isFree (placeAt w p)
   unfolding freeRow
-  free-row p h = ap (λ (k : ℕ). eqb k 0) (kind-byte (image w) (43776 + p * 80) (placeAt w p) (holds-place w p h)) ∙ place-kind (placeAt w p)
+  free-row p h = ap (λ (k : ℕ). eqb k 0) (kind-byte (image w) (placeBegin p) (placeAt w p) (holds-place w p h)) ∙ place-kind (placeAt w p)
 
   rows-to : (n : ℕ) → n ≤ 256 → freeRows (image w) n ≡ freeTo (w .places) n
   unfolding freeRows freeTo
@@ -136,8 +137,8 @@ module _ (w : World) (long : length (w .places) ≡ 256) (p : ℕ) where
 
 -- ---- written
 
-fits-place : (w : World) (p : ℕ) (x : Place) → p < 256 → placed (image w) (43776 + p * 80) (placeBytes x) ≡ splice (image w) (43776 + p * 80) (placeBytes x)
-fits-place w p x h = placed-fits (image w) (placeBytes x) (43776 + p * 80) (omega (arith, length-place x, length-image w))
+fits-place : (w : World) (p : ℕ) (x : Place) → p < 256 → placed (image w) (placeBegin p) (placeBytes x) ≡ splice (image w) (placeBegin p) (placeBytes x)
+fits-place w p x h = placed-fits (image w) (placeBytes x) (placeBegin p) (omega (arith, length-place x, length-image w))
 
 -- i is the lowest free place
 changed-place : (m : Message) (ps : List Place) (i : ℕ) → i < length ps → ((k : ℕ) → k < i → getD ps k free ≢ free) → getD ps i free ≡ free
@@ -157,14 +158,14 @@ full m (waiting x ∷ ps) q = ap (λ (l : List Place). waiting x ∷ l) (full m 
 
 module _ (w : World) (long : length (w .places) ≡ 256) where
   -- "DELIVER frees its place first"
-  pub put-free : (p : ℕ) → p < 256 → placed (image w) (43776 + p * 80) (zeros 80) ≡ image (freed w p)
+  pub put-free : (p : ℕ) → p < 256 → placed (image w) (placeBegin p) (zeros messageWidth) ≡ image (freed w p)
   unfolding freed
   put-free p h =
       rw (← place-zeros) (fits-place w p free h ∙ put-place w (set (w .places) p free) p free (changed-set (w .places) p free (omega arith)) h)
 
   -- "A new message takes the lowest free place"
   pub put-lowest : (m : Message) (p : ℕ) → First 256 (freeRow (image w)) p → p < 256
-      → placed (image w) (43776 + p * 80) (placeBytes (waiting m)) ≡ image (withPlaces w (place m (w .places)))
+      → placed (image w) (placeBegin p) (placeBytes (waiting m)) ≡ image (withPlaces w (place m (w .places)))
   put-lowest m p f h =
       fits-place w p (waiting m) h
       ∙ put-place w (place m (w .places)) p (waiting m)
@@ -192,12 +193,12 @@ byte-before l b o k h = ⊎-elim fits misses (decided (leb (o + length b) (lengt
 pub taken-none : {l : List ℕ} → TakenTo l 0
 taken-none {l} = record { within = omega arith; each = λ k h. absurd (omega arith) }
 
-pub taken-put : (l t b : List ℕ) (p : ℕ) → First 256 (freeRow l) p → t ≡ placed l (43776 + p * 80) b → TakenTo t p
+pub taken-put : (l t b : List ℕ) (p : ℕ) → First 256 (freeRow l) p → t ≡ placed l (placeBegin p) b → TakenTo t p
 unfolding freeRow
 taken-put l t b p f e =
     record {
       within = f .within;
-      each = λ k h. ap (λ (x : ℕ). eqb x 0) (ap (λ (s : List ℕ). getD s (43776 + k * 80) 0) e ∙ byte-before l b (43776 + p * 80) (43776 + k * 80) (omega arith)) ∙ f .below k h;
+      each = λ k h. ap (λ (x : ℕ). eqb x 0) (ap (λ (s : List ℕ). getD s (placeBegin k) 0) e ∙ byte-before l b (placeBegin p) (placeBegin k) (omega arith)) ∙ f .below k h;
     }
 
 -- ---- sent

@@ -17,6 +17,7 @@ use Rattle.rules.specs.declared.Step.{Step}
 use Rattle.rules.specs.Relays.{relayHears}
 use Rattle.rules.specs.Desks.{deskHears}
 use Rattle.rules.specs.WellFormed.{goodBody, goodPlace}
+use Rattle.layout.specs.Layout.{placeBegin}
 use Rattle.layout.specs.Image.{bodyIn, placeIn, rowAt, image, worldAt, goodBytes}
 use Rattle.layout.specs.Lent.{kept, left, lentStep}
 use Rattle.rules.proofs.Kept.{to-desk}
@@ -126,7 +127,7 @@ module _ (b : List ℕ) (good : goodBytes b ≡ true) (p : ℕ) (hp : p < 256) w
   empty-left kind e = let q = is-free (placeAt w p) (sym free-place ∙ e) in cases (λ (a : Act). kept empty b ≡ left b (acts w a)) (eqb kind 6) (λ _. rw q) (λ _. rw q)
 
   module _ (m : code-message.Message) where
-    pub place-holds : freeRow b p ≡ false → messageRow m ≡ rowAt b (43776 + p * 80) → placeAt w p ≡ waiting (messageOf m)
+    pub place-holds : freeRow b p ≡ false → messageRow m ≡ rowAt b (placeBegin p) → placeAt w p ≡ waiting (messageOf m)
     place-holds e q =
         let is : placeAt w p ≡ (if leb 1 (m .body .kind) && leb (m .body .kind) 11 then waiting (messageOf m) else free) = place-at b p hp ∙ ap placeIn (sym q) ∙ place-is m in
         go (leb 1 (m .body .kind) && leb (m .body .kind) 11) is

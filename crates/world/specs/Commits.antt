@@ -11,6 +11,7 @@ use Rattle.rules.specs.Messages.{Body, Message, Answer}
 use Rattle.rules.specs.State.{Transfer, Relay, Place, free, waiting, noRelay, noDesk, World, relayAt, deskAt, placeAt, startRelay, startDesk}
 use Rattle.rules.specs.declared.Desk.{Desk}
 use Rattle.rules.specs.Steps.{Act, deliver, drop, Outcome, relayDoes, deskDoes, freed}
+use Rattle.layout.specs.Layout.{generatorWidth, transferNew, transferWidth, relayBegin, deskBegin, placeBegin}
 use Rattle.layout.specs.Image.{transferAt, worldAt}
 use Rattle.layout.specs.Lent.{Lent, left}
 use Rattle.locality.specs.Narrow.{widens}
@@ -26,11 +27,11 @@ pub record First (n : ℕ) (f : ℕ → Bool) (r : ℕ) : Type 0 where
 
 -- the row of who
 abbrev pub rowOf : ℕ → ℕ
-rowOf who = if ltb who 8 then who * 5440 else 43520 + (who - 8) * 64
+rowOf who = if ltb who 8 then relayBegin who else deskBegin (who - 8)
 
 -- the place p is free: its kind is 0
 unfoldable pub freeRow : List ℕ → ℕ → Bool
-freeRow l p = eqb (getD l (43776 + p * 80) 0) 0
+freeRow l p = eqb (getD l (placeBegin p) 0) 0
 
 -- how many of the places below n are free
 unfoldable pub freeRows : List ℕ → ℕ → ℕ
@@ -44,14 +45,14 @@ pub record TakenTo (l : List ℕ) (p : ℕ) : Type 0 where
 
 -- row k of the generators that begin at i is not filled, or is for the view v; row k of the transfers, for the move from o to n
 unfoldable pub endsView : List ℕ → ℕ → ℕ → ℕ → Bool
-endsView l i v k = eqb (u16At l (i + k * 592)) 0 || eqb (u16At l (i + k * 592)) v
+endsView l i v k = eqb (u16At l (i + k * generatorWidth)) 0 || eqb (u16At l (i + k * generatorWidth)) v
 
 unfoldable pub endsMove : List ℕ → ℕ → ℕ → ℕ → ℕ → Bool
-endsMove l i o n k = eqb (u16At l (i + k * 80 + 2)) 0 || (eqb (u16At l (i + k * 80)) o && eqb (u16At l (i + k * 80 + 2)) n)
+endsMove l i o n k = eqb (u16At l (i + k * transferWidth + transferNew)) 0 || (eqb (u16At l (i + k * transferWidth)) o && eqb (u16At l (i + k * transferWidth + transferNew)) n)
 
 -- of the first n transfer rows from i on, those that stay when v is entered
 unfoldable pub keptRows : List ℕ → ℕ → ℕ → ℕ → List Transfer
-keptRows l i v n = those (λ t. inside v (t .new)) (tab n (λ k. transferAt l (i + k * 80)))
+keptRows l i v n = those (λ t. inside v (t .new)) (tab n (λ k. transferAt l (i + k * transferWidth)))
 
 -- "each to its receivers in ascending order": those below n of a set
 unfoldable pub receiversBelow : ℕ → ℕ → List ℕ

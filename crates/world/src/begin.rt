@@ -38,7 +38,7 @@ pub(crate) fn put_relays(w: &mut [u8], mask: u8)
 {
     for s in 0..8u8 {
         let head = start_head(mask, s);
-        image::put_head(w, s as usize * image::RELAY, head);
+        image::put_head(w, s as usize * layout::RELAY_WIDTH, head);
     }
 }
 
@@ -62,6 +62,6 @@ pub(crate) fn put_desks(w: &mut [u8], mask: u8)
 {
     let desk = start_desk(mask);
     for n in 0..4usize {
-        image::put_desk(w, image::DESKS + n * image::DESK, desk);
+        image::put_desk(w, layout::WORLD_DESKS + n * layout::DESK_WIDTH, desk);
     }
 }

@@ -128,7 +128,7 @@ fn desk_commits(w: &mut [u8], n: u8, p: usize, plan: DeskPlan) -> Answer
     if !reads::has_room(w, p, first.receivers, 0) {
         return refuses(rules::NO_ROOM);
     }
-    image::put_desk(w, image::DESKS + n as usize * image::DESK, desk);
+    image::put_desk(w, layout::WORLD_DESKS + n as usize * layout::DESK_WIDTH, desk);
     writes::free(w, p);
     writes::send(w, 8 + n, first);
     tells(event, n)
@@ -155,7 +155,7 @@ fn relay_acts(w: &mut [u8], kind: u8, s: u8) -> Answer
     requires { ⌜ (goodBytes (now w) ≡ true) × (s < 8) ⌝ }
     ensures { λ r. ⌜ lentOf r (now (w .exit)) ≡ lent.left (now (w .entry)) (relayActs (worldAt (now (w .entry))) kind s) ⌝ }
 {
-    let view = rows::read_u16(w, s as usize * image::RELAY + 3);
+    let view = rows::read_u16(w, s as usize * layout::RELAY_WIDTH + layout::HEAD_VIEW);
     let part = reads::part_at(w, s, view, 0, 0);
     let plan = relay_asked(kind, s, part);
     relay_commits(w, s, 256, plan)
@@ -177,7 +177,7 @@ fn desk_acts(w: &mut [u8], kind: u8, n: u8, x: u32) -> Answer
     requires { ⌜ (goodBytes (now w) ≡ true) × (n < 4) ⌝ }
     ensures { λ r. ⌜ lentOf r (now (w .exit)) ≡ lent.left (now (w .entry)) (deskActs (worldAt (now (w .entry))) kind n x) ⌝ }
 {
-    let desk = image::desk_at(w, image::DESKS + n as usize * image::DESK);
+    let desk = image::desk_at(w, layout::WORLD_DESKS + n as usize * layout::DESK_WIDTH);
     let plan = desk_asked(kind, x, desk);
     desk_commits(w, n, 256, plan)
 }
@@ -236,7 +236,7 @@ fn to_desk(w: &mut [u8], p: usize, m: Message) -> Answer
     let n = m.to - 8;
     let from = m.from;
     let body = m.body;
-    let desk = image::desk_at(w, image::DESKS + n as usize * image::DESK);
+    let desk = image::desk_at(w, layout::WORLD_DESKS + n as usize * layout::DESK_WIDTH);
     let plan = desk::hears(n, desk, from, body);
     desk_commits(w, n, p, plan)
 }
@@ -245,7 +245,7 @@ fn deliver(w: &mut [u8], p: usize) -> Answer
     requires { ⌜ (goodBytes (now w) ≡ true) × ((p < 256) × (freeRow (now w) p ≡ false)) ⌝ }
     ensures { λ r. ⌜ lentOf r (now (w .exit)) ≡ lent.left (now (w .entry)) (steps.acts (worldAt (now (w .entry))) (steps.deliver p)) ⌝ }
 {
-    let m = image::message_at(w, image::PLACES + p * image::PLACE);
+    let m = image::message_at(w, layout::WORLD_PLACES + p * layout::MESSAGE_WIDTH);
     if !reads::alive_at(w, m.to) {
         return refuses(rules::DEAD);
     }
@@ -342,13 +342,13 @@ pub fn step(w: &mut [u8], k: Step) -> Answer
 pub fn start(w: &mut [u8], mask: u8) -> Answer
     ensures { λ r. ⌜ lentOf r (now (w .exit)) ≡ lent.lentStart (now (w .entry)) mask ⌝ }
 {
-    if w.len() != image::SIZE {
+    if w.len() != layout::WORLD_WIDTH {
         return refuses(rules::BAD_WORLD);
     }
     if mask == 0 {
         return refuses(rules::BAD_STEP);
     }
-    rows::clear(w, 0, image::SIZE);
+    rows::clear(w, 0, layout::WORLD_WIDTH);
     begin::put_relays(w, mask);
     begin::put_desks(w, mask);
     tells(Event::Nothing, 0)

@@ -8,6 +8,7 @@ ghost use Rattle.rows.specs.Bytes.{u16At};
 ghost use Rattle.rules.specs.Sets.{if_then_else_};
 ghost use Rattle.rules.specs.State.{relayAt};
 ghost use Rattle.rules.specs.Steps.{aliveIn};
+ghost use Rattle.layout.specs.Layout.{transferNew};
 ghost use Rattle.layout.specs.Image.{worldAt, goodBytes, generatorAt};
 ghost use Rattle.state.specs.Meaning.{partOf, generatorOf};
 ghost use Rattle.locality.specs.Narrow.{move, narrow, widened};
@@ -21,7 +22,7 @@ pub(crate) fn is_free(w: &[u8], p: usize) -> bool
     requires { ⌜ p < 256 ⌝ }
     ensures { λ r. ⌜ r ≡ freeRow (now (w .entry)) p ⌝ }
 {
-    rows::byte_at(w, image::PLACES + p * image::PLACE) == 0
+    rows::byte_at(w, layout::WORLD_PLACES + p * layout::MESSAGE_WIDTH) == 0
 }
 
 pub(crate) fn free_places(w: &[u8]) -> usize
@@ -103,9 +104,9 @@ pub(crate) fn row_of(who: u8) -> usize
     ensures { λ r. ⌜ r ≡ rowOf who ⌝ }
 {
     if who < 8 {
-        return who as usize * image::RELAY;
+        return who as usize * layout::RELAY_WIDTH;
     }
-    image::DESKS + (who as usize - 8) * image::DESK
+    layout::WORLD_DESKS + (who as usize - 8) * layout::DESK_WIDTH
 }
 
 pub(crate) fn alive_at(w: &[u8], who: u8) -> bool
@@ -132,7 +133,7 @@ pub(crate) fn generator_seat(w: &[u8], at: usize, v: u16) -> usize
     ensures { λ r. ⌜ First 8 (endsView (now (w .entry)) at v) r ⌝ }
 {
     for i in 0..8usize {
-        if ends_view(w, at + i * image::GENERATOR, v) {
+        if ends_view(w, at + i * layout::GENERATOR_WIDTH, v) {
             return i;
         }
     }
@@ -141,9 +142,9 @@ pub(crate) fn generator_seat(w: &[u8], at: usize, v: u16) -> usize
 
 fn ends_move(w: &[u8], at: usize, o: u16, n: u16) -> bool
     requires { ⌜ at < 131072 ⌝ }
-    ensures { λ r. ⌜ r ≡ (eqb (u16At (now (w .entry)) (at + 2)) 0 || (eqb (u16At (now (w .entry)) at) o && eqb (u16At (now (w .entry)) (at + 2)) n)) ⌝ }
+    ensures { λ r. ⌜ r ≡ (eqb (u16At (now (w .entry)) (at + transferNew)) 0 || (eqb (u16At (now (w .entry)) at) o && eqb (u16At (now (w .entry)) (at + transferNew)) n)) ⌝ }
 {
-    let new = rows::read_u16(w, at + 2);
+    let new = rows::read_u16(w, at + layout::TRANSFER_NEW);
     if new == 0 {
         return true;
     }
@@ -159,7 +160,7 @@ pub(crate) fn transfer_seat(w: &[u8], at: usize, o: u16, n: u16) -> usize
     ensures { λ r. ⌜ First 8 (endsMove (now (w .entry)) at o n) r ⌝ }
 {
     for i in 0..8usize {
-        if ends_move(w, at + i * image::TRANSFER, o, n) {
+        if ends_move(w, at + i * layout::TRANSFER_WIDTH, o, n) {
             return i;
         }
     }
@@ -191,14 +192,14 @@ pub(crate) fn part_at(w: &[u8], s: u8, v: u16, o: u16, n: u16) -> Part
     requires { ⌜ (goodBytes (now w) ≡ true) × (s < 8) ⌝ }
     ensures { λ r. ⌜ partOf r ≡ narrow (relayAt (worldAt (now (w .entry))) s) v (move o n) ⌝ }
 {
-    let at = s as usize * image::RELAY;
+    let at = s as usize * layout::RELAY_WIDTH;
     let head = image::head_at(w, at);
-    let i = generator_seat(w, at + image::GENERATORS, v);
-    let generates = is_filled(w, i, at + image::GENERATORS + i * image::GENERATOR);
-    let generator = generator_in(w, at + image::GENERATORS + i * image::GENERATOR, generates);
-    let j = transfer_seat(w, at + image::TRANSFERS, o, n);
-    let transfers = is_filled(w, j, at + image::TRANSFERS + j * image::TRANSFER + 2);
-    let transfer = image::transfer_at(w, at + image::TRANSFERS + j * image::TRANSFER);
+    let i = generator_seat(w, at + layout::RELAY_GENERATORS, v);
+    let generates = is_filled(w, i, at + layout::RELAY_GENERATORS + i * layout::GENERATOR_WIDTH);
+    let generator = generator_in(w, at + layout::RELAY_GENERATORS + i * layout::GENERATOR_WIDTH, generates);
+    let j = transfer_seat(w, at + layout::RELAY_TRANSFERS, o, n);
+    let transfers = is_filled(w, j, at + layout::RELAY_TRANSFERS + j * layout::TRANSFER_WIDTH + layout::TRANSFER_NEW);
+    let transfer = image::transfer_at(w, at + layout::RELAY_TRANSFERS + j * layout::TRANSFER_WIDTH);
     Part {
         head: head,
         generates: generates,
@@ -219,7 +220,7 @@ fn generator_seated(w: &[u8], s: u8, part: Part) -> bool
     }
     generator_seat(
         w,
-        s as usize * image::RELAY + image::GENERATORS,
+        s as usize * layout::RELAY_WIDTH + layout::RELAY_GENERATORS,
         part.generator.view,
     )
         < 8
@@ -229,8 +230,8 @@ fn transfer_seated(w: &[u8], s: u8, part: Part) -> bool
     requires { ⌜ (goodBytes (now w) ≡ true) × (s < 8) ⌝ }
     ensures { λ r. ⌜ r ≡ leb (length (widened (relayAt (worldAt (now (w .entry))) s) (partOf part) .transfers)) 8 ⌝ }
 {
-    let at = s as usize * image::RELAY;
-    if part.head.view != rows::read_u16(w, at + 3) {
+    let at = s as usize * layout::RELAY_WIDTH;
+    if part.head.view != rows::read_u16(w, at + layout::HEAD_VIEW) {
         return true;
     }
     if !part.transfers {
@@ -238,7 +239,7 @@ fn transfer_seated(w: &[u8], s: u8, part: Part) -> bool
     }
     transfer_seat(
         w,
-        at + image::TRANSFERS,
+        at + layout::RELAY_TRANSFERS,
         part.transfer.old,
         part.transfer.new,
     )

@@ -207,7 +207,7 @@ pub fn rehearse(sheet: &[u8], world: &mut [u8], out: &mut [u8]) -> Rehearsed
     ensures last { λ _. ⌜ now (world .exit) ≡ worldLeft (now (sheet .entry)) (now (world .entry)) (now (out .entry)) ⌝ }
     ensures printed { λ _. ⌜ now (out .exit) ≡ recordLeft (now (sheet .entry)) (now (world .entry)) (now (out .entry)) ⌝ }
 {
-    if world.len() != image::SIZE {
+    if world.len() != layout::WORLD_WIDTH {
         return Rehearsed {
             answer: rules::BAD_WORLD,
             length: 0,

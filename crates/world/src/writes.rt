@@ -10,6 +10,7 @@ ghost use Rattle.rules.specs.Messages.{copies};
 ghost use Rattle.rules.specs.State.{World, withPlaces, relayAt, withRelay, withTransfers};
 ghost use Rattle.rules.specs.Sending as rules;
 ghost use Rattle.rules.specs.Relays.{freshTransfer};
+ghost use Rattle.layout.specs.Layout.{transfersWidth};
 ghost use Rattle.layout.specs.Image.{transferBytes, image, worldAt, goodBytes};
 ghost use Rattle.state.specs.Meaning.{transferOf, partOf, bodyOf, sendingOf};
 ghost use Rattle.locality.specs.Narrow.{widened};
@@ -29,7 +30,7 @@ pub(crate) fn free(w: &mut [u8], p: usize)
     if 256 <= p {
         return;
     }
-    rows::clear(w, image::PLACES + p * image::PLACE, image::PLACE);
+    rows::clear(w, layout::WORLD_PLACES + p * layout::MESSAGE_WIDTH, layout::MESSAGE_WIDTH);
 }
 
 // "A new message takes the lowest free place", and none below `low` is free; none below the result is free afterwards.
@@ -49,7 +50,7 @@ fn place(w: &mut [u8], low: usize, from: u8, to: u8, body: Body) -> usize
         to: to,
         body: plain,
     };
-    image::put_message(w, image::PLACES + p * image::PLACE, m);
+    image::put_message(w, layout::WORLD_PLACES + p * layout::MESSAGE_WIDTH, m);
     p
 }
 
@@ -99,7 +100,7 @@ fn kept_transfers(w: &[u8], at: usize, v: u16) -> Kept
     let mut of = [blank(); 8];
     let mut n = 0;
     for i in 0..8usize {
-        let t = image::transfer_at(w, at + i * image::TRANSFER);
+        let t = image::transfer_at(w, at + i * layout::TRANSFER_WIDTH);
         if views::inside(v, t.new) {
             of[n] = t;
             n += 1;
@@ -109,13 +110,13 @@ fn kept_transfers(w: &[u8], at: usize, v: u16) -> Kept
 }
 
 fn put_kept(w: &mut [u8], at: usize, kept: Kept)
-    requires { ⌜ at + 640 ≤ length (now w) ⌝ }
+    requires { ⌜ at + transfersWidth ≤ length (now w) ⌝ }
     ensures { λ _. ⌜ now (w .exit) ≡ placed (now (w .entry)) at (table transferBytes (freshTransfer 0 0) 8 (map transferOf (kept .of))) ⌝ }
 {
     let of = kept.of;
     for i in 0..8usize {
         let t = of[i];
-        image::put_transfer(w, at + i * image::TRANSFER, t);
+        image::put_transfer(w, at + i * layout::TRANSFER_WIDTH, t);
     }
 }
 
@@ -125,19 +126,19 @@ fn put_transfers(w: &mut [u8], s: u8, part: Part)
     ensures { λ _. ⌜ (leb (length (widened (relayAt (worldAt (now (w .entry))) s) (partOf part) .transfers)) 8 ≡ true
         → now (w .exit) ≡ image (withRelay (worldAt (now (w .entry))) s (withTransfers (relayAt (worldAt (now (w .entry))) s) (widened (relayAt (worldAt (now (w .entry))) s) (partOf part) .transfers)))) ⌝ }
 {
-    let at = s as usize * image::RELAY;
+    let at = s as usize * layout::RELAY_WIDTH;
     let view = part.head.view;
-    if view != rows::read_u16(w, at + 3) {
-        let kept = kept_transfers(w, at + image::TRANSFERS, view);
-        put_kept(w, at + image::TRANSFERS, kept);
+    if view != rows::read_u16(w, at + layout::HEAD_VIEW) {
+        let kept = kept_transfers(w, at + layout::RELAY_TRANSFERS, view);
+        put_kept(w, at + layout::RELAY_TRANSFERS, kept);
         return;
     }
     if !part.transfers {
         return;
     }
     let t = part.transfer;
-    let i = super::reads::transfer_seat(w, at + image::TRANSFERS, t.old, t.new);
-    image::put_transfer(w, at + image::TRANSFERS + i * image::TRANSFER, t);
+    let i = super::reads::transfer_seat(w, at + layout::RELAY_TRANSFERS, t.old, t.new);
+    image::put_transfer(w, at + layout::RELAY_TRANSFERS + i * layout::TRANSFER_WIDTH, t);
 }
 
 // ---- a relay
@@ -149,14 +150,14 @@ pub(crate) fn put_part(w: &mut [u8], s: u8, part: Part)
         → leb (length (widened (relayAt (worldAt (now (w .entry))) s) (partOf part) .transfers)) 8 ≡ true
         → now (w .exit) ≡ image (withRelay (worldAt (now (w .entry))) s (widened (relayAt (worldAt (now (w .entry))) s) (partOf part)))) ⌝ }
 {
-    let at = s as usize * image::RELAY;
+    let at = s as usize * layout::RELAY_WIDTH;
     let head = part.head;
     let g = part.generator;
-    let i = super::reads::generator_seat(w, at + image::GENERATORS, g.view);
+    let i = super::reads::generator_seat(w, at + layout::RELAY_GENERATORS, g.view);
     put_transfers(w, s, part);
     image::put_head(w, at, head);
     if !part.generates {
         return;
     }
-    image::put_generator(w, at + image::GENERATORS + i * image::GENERATOR, g);
+    image::put_generator(w, at + layout::RELAY_GENERATORS + i * layout::GENERATOR_WIDTH, g);
 }

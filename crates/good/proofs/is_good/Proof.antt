@@ -3,6 +3,7 @@ use mathlib.Core.Path.{_∙_, _≡_, sym}
 use mathlib.Core.Bool.{true}
 use Prim.Native.Nat.{_*_, _+_}
 use Rattle.rows.specs.Tests.{all}
+use Rattle.layout.specs.Layout.{deskBegin}
 use Rattle.layout.specs.Image.{goodBytes}
 use Rattle.good.specs.Rows.{deskGood, relayGood, rowsGood}
 use Rattle.good.proofs.Tests.{both-fail, both-pass, no, yes}
@@ -16,7 +17,7 @@ rows c = sym (bytes-good (c .before .before .args .w .now) (c .if1 .left))
 relays : (c : tie.Else2) → all 8 (relayGood (c .before .before .before .before .args .w .now)) ≡ true
 relays c = yes (c .before .good-relays .ensures) (c .if2 .left)
 
-desks : (c : tie.Else3) → let l = c .before .before .before .before .before .before .args .w .now in all 4 (λ n. deskGood l (43520 + n * 64)) ≡ true
+desks : (c : tie.Else3) → let l = c .before .before .before .before .before .before .args .w .now in all 4 (λ n. deskGood l (deskBegin n)) ≡ true
 desks c = yes (c .before .good-desks .ensures) (c .if3 .left)
 
 returns : tie.Need-returns

@@ -6,6 +6,7 @@ use borrow.Author.Needs.{needs}
 use Rattle.rows.proofs.Laws.{Filled, fill-none, fill-more, fill-all}
 use Rattle.views.specs.declared.Sequence.{Sequence}
 use Rattle.views.specs.Row.{rowOf}
+use Rattle.layout.specs.Layout.{sequenceWidth}
 use Rattle.state.specs.declared.Notes.{Notes}
 use Rattle.image.specs.Parts.{sequenceRowAt, notesRowAt}
 use Rattle.image.proofs.Ends.{alike-end, notes-alike}
@@ -13,7 +14,7 @@ use Rattle.image.proofs.notes_at.Statement.{statement}
 use Rattle.image.proofs.notes_at.Tie as tie
 
 abbrev Inv-loop : tie.InvT-loop
-Inv-loop s at a of₀ i₀ of i = Filled 8 (rowOf []) (λ k. sequenceRowAt s (a + k * 31)) i of
+Inv-loop s at a of₀ i₀ of i = Filled 8 (rowOf []) (λ k. sequenceRowAt s (a + k * sequenceWidth)) i of
 
 abbrev μ-loop : tie.MeasureT-loop
 μ-loop s at a of₀ i₀ of i = 8 - i

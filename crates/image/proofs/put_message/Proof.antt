@@ -6,6 +6,7 @@ use lib.ListN.{length}
 use borrow.Author.Needs.{needs}
 use Rattle.rows.proofs.Laws.{room, no-room}
 use Rattle.rows.proofs.Numbers.{byte-number}
+use Rattle.layout.specs.Layout.{messageWidth}
 use Rattle.layout.specs.Image.{rowBytes}
 use Rattle.layout.proofs.Widths.{length-row}
 use Rattle.image.specs.Parts.{messageRow}
@@ -13,7 +14,7 @@ use Rattle.image.proofs.Fields.{none, blank, piece, pair, laid-around, 
 use Rattle.image.proofs.put_message.Statement.{statement}
 use Rattle.image.proofs.put_message.Tie as tie
 
-space : (c : tie.Else1) → let a = c .before .before .before .before .before .before .before .before .before .before .before .before .before .before .before .args in a .at + 80 ≤ length (a .s .now)
+space : (c : tie.Else1) → let a = c .before .before .before .before .before .before .before .before .before .before .before .before .before .before .before .args in a .at + messageWidth ≤ length (a .s .now)
 space c = room (c .before .has-room .ensures) (c .if1 .left)
 
 returns : tie.Need-returns
@@ -34,7 +35,7 @@ returns-2 c =
     let e = front .before .before .before .before in
     let b = e .before .before .struct-known9 .given in
     let m = e .before .before .before .before .before .before .before .before .struct-known3 .given in
-    laid-around _ _ _ (around _ _ _ _ _ _ _ _ _ _ _ refl refl (space e) (front .put-fields .ensures) (middle .put-sequence .ensures) (back .put-fields2 .ensures))
+    laid-around _ _ _ (around _ _ _ _ _ _ _ _ _ _ _ _ refl refl (space e) (front .put-fields .ensures) (middle .put-sequence .ensures) (back .put-fields2 .ensures))
     (piece (byte-number (b .0)) (piece (byte-number (m .0)) (piece (byte-number (m .1 .0)) (piece refl (piece refl (piece refl none))))))
     (pair _ (b .1 .1 .1 .1 .1 .0 .0 .1 .0) (piece refl blank))
 

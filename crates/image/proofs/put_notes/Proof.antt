@@ -6,6 +6,8 @@ use lib.ListN.{length, getD}
 use borrow.Author.Needs.{needs}
 use Rattle.rows.proofs.Laws.{room, no-room, Wrote, wrote-none, wrote-more, wrote-all}
 use Rattle.views.specs.Row.{viewsOf}
+use Rattle.rules.specs.Sets.{relayCount}
+use Rattle.layout.specs.Layout.{sequenceWidth, notesWidth}
 use Rattle.layout.specs.Image.{sequenceBytes}
 use Rattle.state.specs.Meaning.{notesOf}
 use Rattle.image.specs.Parts.{notesBytes}
@@ -15,7 +17,7 @@ use Rattle.image.proofs.put_notes.Statement.{statement}
 use Rattle.image.proofs.put_notes.Tie as tie
 
 abbrev Inv-loop : tie.InvT-loop
-Inv-loop s₀ at of i₀ s i = Wrote 31 8 (λ k. sequenceBytes (getD (map viewsOf of) k [])) s₀ at i s
+Inv-loop s₀ at of i₀ s i = Wrote sequenceWidth relayCount (λ k. sequenceBytes (getD (map viewsOf of) k [])) s₀ at i s
 
 abbrev μ-loop : tie.MeasureT-loop
 μ-loop s₀ at of i₀ s i = 8 - i
@@ -23,7 +25,7 @@ abbrev μ-loop : tie.MeasureT-loop
 returns : tie.Need-returns Inv-loop μ-loop
 returns c = no-room _ _ _ (length-notes _) (c .before .has-room .ensures) (c .if1 .taken)
 
-space : (c : tie.Else1 Inv-loop μ-loop) → let a = c .before .before .before .args in a .at + 248 ≤ length (a .s .now)
+space : (c : tie.Else1 Inv-loop μ-loop) → let a = c .before .before .before .args in a .at + notesWidth ≤ length (a .s .now)
 space c = room (c .before .has-room .ensures) (c .if1 .left)
 
 add-put-sequence : tie.Need-add-put-sequence Inv-loop μ-loop
@@ -36,7 +38,7 @@ loop-again c =
     let e = turn .before .before .before in
     let a = e .before .before .before .args in
     let i = turn .before .loop .i in
-    wrote-more (λ k. length-sequence _) (space e) _ (a .at + i * 31) (turn .before .loop .inv) (turn .loop-test .taken) (omega arith)
+    wrote-more (λ k. length-sequence _) (space e) _ (a .at + i * sequenceWidth) (turn .before .loop .inv) (turn .loop-test .taken) (omega arith)
     (rw (note-at (a .n .of) i) at (wrote .put-sequence .ensures))
 
 returns-2 : tie.Need-returns-2 Inv-loop μ-loop

@@ -9,6 +9,7 @@ use Rattle.rows.specs.Bytes.{placed, be16, zeros}
 use Rattle.rows.proofs.Laws.{room, no-room, put-first, put-then, Wrote, wrote-none, wrote-more, wrote-all}
 use Rattle.rows.proofs.Numbers.{length-be16}
 use Rattle.views.specs.Row.{viewsOf}
+use Rattle.layout.specs.Layout.{sequenceWidth}
 use Rattle.layout.specs.Image.{sequenceBytes}
 use Rattle.layout.proofs.Zeros.{sequence-zeros}
 use Rattle.image.proofs.Widths.{length-views, length-sequence}
@@ -24,11 +25,11 @@ abbrev μ-loop : tie.MeasureT-loop
 returns : tie.Need-returns Inv-loop μ-loop
 returns c = no-room _ _ _ (length-sequence _) (c .before .has-room .ensures) (c .if1 .taken)
 
-space : (c : tie.Else1 Inv-loop μ-loop) → let a = c .before .before .before .args in a .at + 31 ≤ length (a .s .now)
+space : (c : tie.Else1 Inv-loop μ-loop) → let a = c .before .before .before .args in a .at + sequenceWidth ≤ length (a .s .now)
 space c = room (c .before .has-room .ensures) (c .if1 .left)
 
 -- an empty row is zeros
-none : (l : List ℕ) → length l ≡ 0 → zeros 31 ≡ sequenceBytes l
+none : (l : List ℕ) → length l ≡ 0 → zeros sequenceWidth ≡ sequenceBytes l
 none [] e = sym sequence-zeros
 none (x ∷ l) e = absurd (omega arith)
 

@@ -6,6 +6,7 @@ use lib.ListN.{length}
 use borrow.Author.Needs.{needs}
 use Rattle.rows.proofs.Laws.{room, no-room}
 use Rattle.rows.proofs.Numbers.{byte-number}
+use Rattle.layout.specs.Layout.{transferWidth}
 use Rattle.layout.specs.Image.{transferBytes}
 use Rattle.layout.proofs.Widths.{length-transfer}
 use Rattle.state.specs.Meaning.{transferOf}
@@ -13,7 +14,7 @@ use Rattle.image.proofs.Fields.{none, blank, piece, pair, laid-around, 
 use Rattle.image.proofs.put_transfer.Statement.{statement}
 use Rattle.image.proofs.put_transfer.Tie as tie
 
-space : (c : tie.Else1) → let a = c .before .before .before .before .before .before .before .before .before .before .before .args in a .at + 80 ≤ length (a .s .now)
+space : (c : tie.Else1) → let a = c .before .before .before .before .before .before .before .before .before .before .before .args in a .at + transferWidth ≤ length (a .s .now)
 space c = room (c .before .has-room .ensures) (c .if1 .left)
 
 returns : tie.Need-returns
@@ -33,7 +34,7 @@ returns-2 c =
     let front = middle .before .before .before .before in
     let e = front .before .before .before .before in
     let t = e .before .before .struct-known6 .given in
-    laid-around _ _ _ (around _ _ _ _ _ _ _ _ _ _ _ refl refl (space e) (front .put-fields .ensures) (middle .put-sequence .ensures) (back .put-fields2 .ensures))
+    laid-around _ _ _ (around _ _ _ _ _ _ _ _ _ _ _ _ refl refl (space e) (front .put-fields .ensures) (middle .put-sequence .ensures) (back .put-fields2 .ensures))
     (piece refl (piece refl none))
     (piece (byte-number (t .1 .1 .1 .0)) (pair _ (t .1 .1 .1 .1 .0 .0 .1 .0) (piece refl blank)))
 

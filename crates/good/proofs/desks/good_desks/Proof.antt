@@ -2,13 +2,14 @@
 use Prim.Native.Nat.{_*_, _+_, _-_}
 use borrow.Author.Needs.{needs}
 use Rattle.rows.proofs.All.{Passed, passed-all, passed-fails, passed-more, passed-none}
+use Rattle.layout.specs.Layout.{deskBegin}
 use Rattle.good.specs.Rows.{deskGood}
 use Rattle.good.proofs.Tests.{no, yes}
 use Rattle.good.proofs.desks.good_desks.Statement.{statement}
 use Rattle.good.proofs.desks.good_desks.Tie as tie
 
 abbrev Inv-loop : tie.InvT-loop
-Inv-loop w n₀ n = Passed 4 (λ k. deskGood w (43520 + k * 64)) n
+Inv-loop w n₀ n = Passed 4 (λ k. deskGood w (deskBegin k)) n
 
 abbrev μ-loop : tie.MeasureT-loop
 μ-loop w n₀ n = 4 - n

@@ -2,13 +2,14 @@
 use Prim.Native.Nat.{_*_, _+_, _-_}
 use borrow.Author.Needs.{needs}
 use Rattle.rows.proofs.All.{Passed, passed-all, passed-fails, passed-more, passed-none}
+use Rattle.layout.specs.Layout.{placeBegin}
 use Rattle.good.specs.Rows.{placeGood}
 use Rattle.good.proofs.Tests.{no, yes}
 use Rattle.good.proofs.places.good_places.Statement.{statement}
 use Rattle.good.proofs.places.good_places.Tie as tie
 
 abbrev Inv-loop : tie.InvT-loop
-Inv-loop w p₀ p = Passed 256 (λ k. placeGood w (43776 + k * 80)) p
+Inv-loop w p₀ p = Passed 256 (λ k. placeGood w (placeBegin k)) p
 
 abbrev μ-loop : tie.MeasureT-loop
 μ-loop w p₀ p = 256 - p

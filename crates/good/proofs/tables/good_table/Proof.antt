@@ -11,7 +11,8 @@ use lib.ListN.{getD}
 use borrow.Author.Needs.{needs}
 use Rattle.rows.specs.Tests.{allZero}
 use Rattle.rows.proofs.All.{all-at, all-every, Passed, passed-all, passed-fails, passed-more, passed-none, passed-rest}
-use Rattle.rules.specs.Sets.{_||_}
+use Rattle.rules.specs.Sets.{_||_, seatCount}
+use Rattle.layout.specs.Layout.{generatorWidth, generatorsWidth}
 use Rattle.good.specs.Rows.{filledGood}
 use Rattle.good.proofs.Rows.{rows-inside}
 use Rattle.good.proofs.Tests.{either-first, either-next, no as fails, yes as holds}
@@ -19,10 +20,10 @@ use Rattle.good.proofs.tables.good_table.Statement.{statement}
 use Rattle.good.proofs.tables.good_table.Tie as tie
 
 abbrev Inv-loop : tie.InvT-loop
-Inv-loop w s at width i₀ i = Passed 8 (filledGood width w s at) i
+Inv-loop w s at generators width i₀ i = Passed seatCount (filledGood generators width w s at) i
 
 abbrev μ-loop : tie.MeasureT-loop
-μ-loop w s at width i₀ i = 8 - i
+μ-loop w s at generators width i₀ i = seatCount - i
 
 -- where all is zero from place i on, it is from each later place on
 zero-later : (n : ℕ) (l : List ℕ) (o i k : ℕ) → i ≤ k → allZero l (o + i * n) ((8 - i) * n) ≡ true → allZero l (o + k * n) ((8 - k) * n) ≡ true
@@ -69,8 +70,8 @@ loop-again c =
 returns-3 : tie.Need-returns-3 Inv-loop μ-loop
 returns-3 c = passed-all (c .before .loop .inv) (omega arith)
 
-inside : (c : tie.In-loop Inv-loop μ-loop) → let n = c .before .before .before .args .width in (c .before .loop .i * n ≤ 4144) × ((8 - c .before .loop .i) * n ≤ 4736)
-inside c = (rows-inside _ 7 _ (omega arith) (omega arith), rows-inside _ 8 _ (omega arith) (omega arith))
+inside : (c : tie.In-loop Inv-loop μ-loop) → let n = c .before .before .before .args .width in (c .before .loop .i * n ≤ (seatCount - 1) * generatorWidth) × ((seatCount - c .before .loop .i) * n ≤ generatorsWidth)
+inside c = (rows-inside _ (seatCount - 1) _ (omega arith) (omega arith), rows-inside _ seatCount _ (omega arith) (omega arith))
 
 pub good-table-spec : {M : Type 1} → statement M
 good-table-spec =

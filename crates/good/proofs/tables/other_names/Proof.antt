@@ -5,16 +5,18 @@ use Prim.Native.Nat.{_*_, _+_, _-_, _≤_}
 use native.Mathlib.Omega.{arith}
 use borrow.Author.Needs.{needs}
 use Rattle.rows.proofs.All.{Passed, passed-all, passed-fails, passed-more, passed-none}
+use Rattle.rules.specs.Sets.{seatCount}
+use Rattle.layout.specs.Layout.{generatorWidth}
 use Rattle.good.specs.Rows.{differs, otherRow}
 use Rattle.good.proofs.Rows.{rows-inside}
 use Rattle.good.proofs.tables.other_names.Statement.{statement}
 use Rattle.good.proofs.tables.other_names.Tie as tie
 
 abbrev Inv-loop : tie.InvT-loop
-Inv-loop w at i width j₀ j = Passed i (λ k. otherRow width w (at + k * width) (at + i * width)) j
+Inv-loop w at i generators width j₀ j = Passed i (λ k. otherRow generators w (at + k * width) (at + i * width)) j
 
 abbrev μ-loop : tie.MeasureT-loop
-μ-loop w at i width j₀ j = i - j
+μ-loop w at i generators width j₀ j = i - j
 
 returns : tie.Need-returns Inv-loop μ-loop
 unfolding differs
@@ -27,8 +29,8 @@ returns-2 : tie.Need-returns-2 Inv-loop μ-loop
 unfolding differs
 returns-2 c = passed-all (c .before .loop .inv) (c .loop-test .left)
 
-inside : (c : tie.In-loop Inv-loop μ-loop) → let a = c .before .before .before .args in (c .before .loop .j * a .width ≤ 4144) × (a .i * a .width ≤ 4144)
-inside c = (rows-inside _ 7 _ (omega arith) (search needs), rows-inside _ 7 _ (omega arith) (search needs))
+inside : (c : tie.In-loop Inv-loop μ-loop) → let a = c .before .before .before .args in (c .before .loop .j * a .width ≤ (seatCount - 1) * generatorWidth) × (a .i * a .width ≤ (seatCount - 1) * generatorWidth)
+inside c = (rows-inside _ (seatCount - 1) _ (omega arith) (search needs), rows-inside _ (seatCount - 1) _ (omega arith) (search needs))
 
 pub other-names-spec : {M : Type 1} → statement M
 other-names-spec =

@@ -12,20 +12,20 @@ use Rattle.good.proofs.tables.same_name.Tie as tie
 
 returns : tie.Need-returns
 unfolding otherRow generatorAt
-returns c = rw (eq-eqb _ _ (c .before .before .if1 .taken)) (ap not (ap₂ eqb (c .before .read-u16 .ensures) (c .read-u162 .ensures)))
+returns c = rw (c .before .before .if1 .taken) (ap not (ap₂ eqb (c .before .read-u16 .ensures) (c .read-u162 .ensures)))
 
 returns-2 : tie.Need-returns-2
 unfolding otherRow transferAt
 returns-2 c =
     let l = c .before .before in
-    rw (ne-eqb _ _ (l .before .if1 .left)) (ap not (both-fail _ (ne-eqb _ _ (λ z. c .if2 .taken (l .read-u163 .ensures ∙ z ∙ sym (c .before .read-u164 .ensures))))))
+    rw (l .before .if1 .left) (ap not (both-fail _ (ne-eqb _ _ (λ z. c .if2 .taken (l .read-u163 .ensures ∙ z ∙ sym (c .before .read-u164 .ensures))))))
 
 returns-3 : tie.Need-returns-3
 unfolding otherRow transferAt
 returns-3 c =
     let t = c .before .before in
     let l = t .before .before in
-    rw (ne-eqb _ _ (l .before .if1 .left)) (ap not (both-pass (eq-eqb _ _ (sym (l .read-u163 .ensures) ∙ t .if2 .left ∙ t .before .read-u164 .ensures))
+    rw (l .before .if1 .left) (ap not (both-pass (eq-eqb _ _ (sym (l .read-u163 .ensures) ∙ t .if2 .left ∙ t .before .read-u164 .ensures))
     (ap₂ eqb (c .before .read-u165 .ensures) (c .read-u166 .ensures))))
 
 pub same-name-spec : {M : Type 1} → statement M

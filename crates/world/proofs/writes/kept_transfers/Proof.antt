@@ -7,6 +7,7 @@ use native.Mathlib.Omega.{arith}
 use borrow.Author.Needs.{needs}
 use Rattle.rules.specs.Sets.{inside}
 use Rattle.rules.specs.State.{Transfer}
+use Rattle.layout.specs.Layout.{transferWidth}
 use Rattle.layout.specs.Image.{transferAt}
 use Rattle.state.specs.Meaning.{transferOf}
 use Rattle.rules.proofs.Lists.{map-set}
@@ -26,7 +27,7 @@ few c = let k = c .before .before .before .before .loop .inv .few in omega arith
 
 is-inside : (c : tie.After-inside Inv-loop μ-loop)
     → let a = c .before .before .before .before .before .before .args in
-    c .inside .result ≡ inside (a .v) (transferAt (a .w .now) (a .at + c .before .before .before .loop .i * 80) .new)
+    c .inside .result ≡ inside (a .v) (transferAt (a .w .now) (a .at + c .before .before .before .loop .i * transferWidth) .new)
 unfolding transferOf
 is-inside c =
     let v = c .before .before .before .before .before .before .args .v in

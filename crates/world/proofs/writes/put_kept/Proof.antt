@@ -6,6 +6,7 @@ use lib.ListN.{getD}
 use borrow.Author.Needs.{needs}
 use Rattle.rows.proofs.Laws.{Wrote, wrote-none, wrote-more, wrote-all}
 use Rattle.rules.specs.Relays.{freshTransfer}
+use Rattle.layout.specs.Layout.{transferWidth}
 use Rattle.layout.specs.Image.{transferBytes}
 use Rattle.layout.proofs.Widths.{length-transfer}
 use Rattle.state.specs.Meaning.{transferOf}
@@ -14,7 +15,7 @@ use Rattle.world.proofs.writes.put_kept.Statement.{statement}
 use Rattle.world.proofs.writes.put_kept.Tie as tie
 
 abbrev Inv-loop : tie.InvT-loop
-Inv-loop w₀ at of i₀ w i = Wrote 80 8 (λ k. transferBytes (getD (map transferOf of) k (freshTransfer 0 0))) w₀ at i w
+Inv-loop w₀ at of i₀ w i = Wrote transferWidth 8 (λ k. transferBytes (getD (map transferOf of) k (freshTransfer 0 0))) w₀ at i w
 
 abbrev μ-loop : tie.MeasureT-loop
 μ-loop w₀ at of i₀ w i = 8 - i
