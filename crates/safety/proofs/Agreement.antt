@@ -5,6 +5,7 @@ use mathlib.Core.Path.{_≡_, subst}
 use mathlib.Core.Logic.{_⊎_, inl, inr}
 use mathlib.Core.List.{List, [], _∷_, List·Memᴰ·head, List·Memᴰ·tail, List·Memᴰ·not-nil}
 use Prim.Native.Nat.{ℕ}
+use Rattle.safety.proofs.Setting.{Setting}
 use Rattle.safety.proofs.Sequences.{_∈_, _⊆_, Sequence, Nested, Chain}
 use Rattle.safety.proofs.Votes.{Gathered, given, both, gathered-chain, gathered-nested}
 use Rattle.safety.proofs.Quorums.{shared, someone}
@@ -12,20 +13,20 @@ use Rattle.safety.proofs.Facts.{History, Opened, at-start, alone, Origi
 use Rattle.safety.proofs.Log.{Log, _∋_, first, own, conv, raise, enter, Active, active-start, active-enter, First, by-timer, by-entry, Merge, clash, joined, OwnFrom, own-first, own-merge, Sound}
 use Rattle.safety.proofs.Past.{Past, now, back, past-has, places, Places, same, earlier, later, here, justified, because, Why, why}
 
-pub data Entered (start : ℕ) (t : Log) (w : ℕ) : Type 0 where
-  from-start : w ≡ start → Entered start t w
-  by-relay : {k o s y : ℕ} {q : List ℕ} → t ∋ enter k o w q s y → Entered start t w
+pub data Entered (C : Setting) (t : Log) (w : ℕ) : Type 0 where
+  from-start : w ≡ C .view → Entered C t w
+  by-relay : {k o s y : ℕ} {q : List ℕ} → t ∋ enter k o w q s y → Entered C t w
 
 -- the history that a log tells
-abbrev pub history : ℕ → Log → History
-history start t = record {
-  start = start;
-  Entered = Entered start t;
+abbrev pub history : Setting → Log → History
+history C t = record {
+  start = C .view;
+  Entered = Entered C t;
   Raised = λ v q. t ∋ raise v q;
   Proposed = λ v q. (k : ℕ) × (t ∋ first k v q);
 }
 
-module _ {start : ℕ} {t : Log} (S : Sound start t) where
+module _ {C : Setting} {t : Log} (S : Sound C t) where
   -- what is raised was some relay's own
   raised-own : {v : ℕ} {q : List ℕ} → t ∋ raise v q → (k : ℕ) × (t ∋ own k v q)
   raised-own m =
@@ -46,7 +47,7 @@ module _ {start : ℕ} {t : Log} (S : Sound start t) where
       go x y (earlier h) = inl (justified S y .grown p (here h))
       go x y (later h) = inr (justified S x .grown q (here h))
 
-  pub opened : {l : Log} {k v : ℕ} → Past t l → Active start l k v → Opened (history start t) v
+  pub opened : {l : Log} {k v : ℕ} → Past t l → Active C l k v → Opened (history C t) v
   opened x (active-start e) = at-start e
   opened x (active-enter m i) = let w = why S (past-has x m) in alone (past-has (back (w .past)) (w .is .raised)) i
 
@@ -54,9 +55,9 @@ module _ {start : ℕ} {t : Log} (S : Sound start t) where
   own-sequence m = why S m .is .sequence
 
   -- an own sequence is gathered from first proposals, if these form a chain
-  module _ {v : ℕ} (c : Chain (history start t .Proposed v)) where
+  module _ {v : ℕ} (c : Chain (history C t .Proposed v)) where
     abbrev FromFirst : List ℕ → Type 0
-    FromFirst = Gathered (history start t .Proposed v)
+    FromFirst = Gathered (history C t .Proposed v)
 
     merge : {p r q : List ℕ} → Sequence p → Sequence r → FromFirst p → FromFirst r → Merge p r q → FromFirst q
     merge a b g h (joined u) = both g h u
@@ -96,29 +97,29 @@ module _ {start : ℕ} {t : Log} (S : Sound start t) where
       go ih (own-first m) = (k, q, past-has (back x) m)
       go ih (own-merge n m g) = ih _ v _ m
 
-  pub active-entered : {l : Log} {k v : ℕ} → Past t l → Active start l k v → Entered start t v
+  pub active-entered : {l : Log} {k v : ℕ} → Past t l → Active C l k v → Entered C t v
   active-entered x (active-start e) = from-start e
   active-entered x (active-enter m i) = by-relay (past-has x m)
 
-  first-entered : {k v : ℕ} {q : List ℕ} → Why start t (first k v q) → Entered start t v
+  first-entered : {k v : ℕ} {q : List ℕ} → Why C t (first k v q) → Entered C t v
   first-entered {k} {v} {q} w = go (w .is)
     where
-      go : First start (w .before) k v q → Entered start t v
+      go : First C (w .before) k v q → Entered C t v
       go (by-timer a) = active-entered (back (w .past)) a
       go (by-entry m i) = by-relay (past-has (back (w .past)) m)
 
-  first-origin : {k v : ℕ} {q : List ℕ} → Why start t (first k v q) → Origin (history start t) v q
+  first-origin : {k v : ℕ} {q : List ℕ} → Why C t (first k v q) → Origin (history C t) v q
   first-origin {k} {v} {q} w = go (w .is)
     where
-      go : First start (w .before) k v q → Origin (history start t) v q
+      go : First C (w .before) k v q → Origin (history C t) v q
       go (by-timer a) = timer (opened (back (w .past)) a)
       go (by-entry m i) = let n = why S (past-has (back (w .past)) m) in entry (past-has (back (n .past)) (n .is .raised)) (n .is .least) i
 
-  arrival : {v : ℕ} → Entered start t v → Arrival (history start t) v
+  arrival : {v : ℕ} → Entered C t v → Arrival (history C t) v
   arrival (from-start e) = start-view e
   arrival (by-relay m) = let n = why S m in through (past-has (back (n .past)) (n .is .raised)) (n .is .least)
 
-  pub facts : Facts (history start t)
+  pub facts : Facts (history C t)
   facts = record {
     sequence = λ {v} {q} m. own-sequence (raised-own m .1);
     above = λ {v} {q} m. why S (raised-own m .1) .is .above;

@@ -11,6 +11,7 @@ use lib.Seq.{getD-set-same, getD-set-other}
 use Rattle.rules.specs.Stamps.{Pair}
 use Rattle.rules.specs.History.{Operation, Told, toldAt, nobody, operation}
 use Rattle.rules.specs.Demand3.{_∈_, eventOf}
+use Rattle.safety.proofs.Setting.{Setting}
 use Rattle.safety.proofs.Numbers.{num, Small, pairOf, pair-back}
 use Rattle.safety.proofs.Log.{Task, Op, Log, _∋_, begin, settle, finish, Active, active-start, Sound}
 use Rattle.safety.proofs.Past.{now, back, past-has, justified, sound-past, why}
@@ -49,7 +50,7 @@ pub record Lasting (l : Log) (begins : Times) (ops : List Operation) : Type 0 wh
   pub lasted : (p : Operation) → p ∈ ops → (0 < p .begun) × (p .begun < p .ended)
 
 -- before the step numbered i: ts is what the desks were last told, ops are the operations that ended, vs the views that opened
-pub record Book (start : ℕ) (l : Log) (i : ℕ) (ts : List Told) (ops : List Operation) (vs : List ℕ) : Type 0 where
+pub record Book (C : Setting) (l : Log) (i : ℕ) (ts : List Told) (ops : List Operation) (vs : List ℕ) : Type 0 where
   pub begins : Times
   pub ends : Times
   pub dates : Dates l i begins ends
@@ -60,10 +61,10 @@ pub record Book (start : ℕ) (l : Log) (i : ℕ) (ts : List Told) (ops : List O
   pub current : (n t : ℕ) (a : Task) → l ∋ begin n t a → (Done l n t → ⊥) → toldAt ts n ≡ record { task = a; begun = begins n t }
   pub listed : (o : Op) → l ∋ finish o → told begins ends o ∈ ops
   pub known : (p : Operation) → p ∈ ops → (o : Op) × (l ∋ finish o) × (told begins ends o ≡ p)
-  pub opened : (v : ℕ) → v ∈ vs → (k : ℕ) × Active start l k v
+  pub opened : (v : ℕ) → v ∈ vs → (k : ℕ) × Active C l k v
 
-pub book-none : (start : ℕ) → Book start [] 1 nobody [] (start ∷ [])
-book-none start = record {
+pub book-none : (C : Setting) → Book C [] 1 nobody [] (C .view ∷ [])
+book-none C = record {
   begins = λ d t. 0;
   ends = λ d t. 0;
   dates = dates-none;
@@ -86,16 +87,16 @@ old-finish : {l m : Log} {o : Op} → Since Plain l m → m ∋ finish o → l �
 old-finish stay h = h
 old-finish (add p s) h = old-finish s (older (p .1 _) h)
 
-pub finish-begun : {start : ℕ} {l : Log} {o : Op} → Sound start l → l ∋ finish o → (l ∋ settle o) × (l ∋ begin (o .desk) (o .try) (o .task))
+pub finish-begun : {C : Setting} {l : Log} {o : Op} → Sound C l → l ∋ finish o → (l ∋ settle o) × (l ∋ begin (o .desk) (o .try) (o .task))
 finish-begun S h =
     let f = why S h in
     let k = past-has (back (f .past)) (f .is .settled) in
     let g = why S k in
     (k, past-has (back (g .past)) (g .is .begun))
 
-module _ {start i : ℕ} {ts : List Told} {ops : List Operation} {vs : List ℕ} where
+module _ {C : Setting} {i : ℕ} {ts : List Told} {ops : List Operation} {vs : List ℕ} where
   -- ---- a step more, in which nothing was done
-  pub book-on : {l : Log} → Book start l i ts ops vs → Book start l (suc i) ts ops vs
+  pub book-on : {l : Log} → Book C l i ts ops vs → Book C l (suc i) ts ops vs
   book-on b = record {
     begins = b .begins;
     ends = b .ends;
@@ -111,7 +112,7 @@ module _ {start i : ℕ} {ts : List Told} {ops : List Operation} {vs : List ℕ}
 
   -- ---- entries that neither begin nor end an operation
 
-  pub book-plain : {l m : Log} → Since Plain l m → Book start l i ts ops vs → Book start m i ts ops vs
+  pub book-plain : {l m : Log} → Since Plain l m → Book C l i ts ops vs → Book C m i ts ops vs
   book-plain {l} {m} s b = record {
     begins = b .begins;
     ends = b .ends;
@@ -126,7 +127,7 @@ module _ {start i : ℕ} {ts : List Told} {ops : List Operation} {vs : List ℕ}
   }
 
   -- ---- a view opened
-  pub book-opens : {l : Log} (k v : ℕ) → Active start l k v → Book start l i ts ops vs → Book start l i ts ops (vs ++ v ∷ [])
+  pub book-opens : {l : Log} (k v : ℕ) → Active C l k v → Book C l i ts ops vs → Book C l i ts ops (vs ++ v ∷ [])
   book-opens {l} k v a b = record {
     begins = b .begins;
     ends = b .ends;
@@ -137,13 +138,13 @@ module _ {start i : ℕ} {ts : List Told} {ops : List Operation} {vs : List ℕ}
     current = b .current;
     listed = b .listed;
     known = b .known;
-    opened = λ u h. ⊎-elim (b .opened u) (λ e. (k, subst (λ (x : ℕ). Active start l k x) (sym (List·Memᴰ·eq-of-singleton e)) a)) (List·Memᴰ·append-cases vs h);
+    opened = λ u h. ⊎-elim (b .opened u) (λ e. (k, subst (λ (x : ℕ). Active C l k x) (sym (List·Memᴰ·eq-of-singleton e)) a)) (List·Memᴰ·append-cases vs h);
   }
 
   -- ---- an operation of the desk n begins with the try s
 
-  pub book-begin : {l : Log} (n s : ℕ) (x : Task) → n < 4 → Sound start (begin n s x ∷ l) → Book start l i ts ops vs
-      → Book start (begin n s x ∷ l) (suc i) (set ts n (record { task = x; begun = i })) ops vs
+  pub book-begin : {l : Log} (n s : ℕ) (x : Task) → n < 4 → Sound C (begin n s x ∷ l) → Book C l i ts ops vs
+      → Book C (begin n s x ∷ l) (suc i) (set ts n (record { task = x; begun = i })) ops vs
   book-begin {l} n s x small S b = record {
     begins = noted (b .begins) n s i;
     ends = b .ends;
@@ -161,7 +162,7 @@ module _ {start i : ℕ} {ts : List Told} {ops : List Operation} {vs : List ℕ}
     opened = λ v h. let k = b .opened v h in (k .0, active-since one-more (k .1));
   }
     where
-      before : Sound start l
+      before : Sound C l
       before = sound-past S (back now)
 
       fresh : (t : ℕ) (a : Task) → l ∋ begin n t a → t < s
@@ -191,9 +192,9 @@ module _ {start i : ℕ} {ts : List Told} {ops : List Operation} {vs : List ℕ}
 
   -- ---- the operation o ends with the pair p
 
-  pub book-end : {l : Log} (o : Op) (p : Pair) → Sound start (finish o ∷ l) → o .stamp ≡ num (p .stamp) → o .value ≡ p .value → Small p
-      → Book start l i ts ops vs
-      → Book start (finish o ∷ l) (suc i) ts (ops ++ operation ts (o .desk) i (eventOf (o .task)) p ∷ []) vs
+  pub book-end : {l : Log} (o : Op) (p : Pair) → Sound C (finish o ∷ l) → o .stamp ≡ num (p .stamp) → o .value ≡ p .value → Small p
+      → Book C l i ts ops vs
+      → Book C (finish o ∷ l) (suc i) ts (ops ++ operation ts (o .desk) i (eventOf (o .task)) p ∷ []) vs
   book-end {l} o p S es ev small b = record {
     begins = b .begins;
     ends = noted (b .ends) (o .desk) (o .try) i;
@@ -210,7 +211,7 @@ module _ {start i : ℕ} {ts : List Told} {ops : List Operation} {vs : List ℕ}
     opened = λ v h. let k = b .opened v h in (k .0, active-since one-more (k .1));
   }
     where
-      before : Sound start l
+      before : Sound C l
       before = sound-past S (back now)
 
       settled : l ∋ settle o

@@ -11,6 +11,7 @@ use Rattle.rules.specs.Stamps.{Stamp, greater}
 use Rattle.rules.specs.State.{World}
 use Rattle.rules.specs.History.{Operation, Told, unfinishedIn}
 use Rattle.rules.specs.Demand3.{_∈_, isRead, eventOf, written, latest, Next, Ordered, first, next}
+use Rattle.safety.proofs.Setting.{Setting}
 use Rattle.safety.proofs.Sequences.{Comparable, same, inner, outer}
 use Rattle.safety.proofs.Numbers.{num, stampOf, pairOf, stamps-rise}
 use Rattle.safety.proofs.Log.{Task, reading, writing, Op, Log, _∋_, begin, settle, finish}
@@ -39,7 +40,7 @@ pub read-task : (a : Task) → isRead a ≡ true → a ≡ reading
 read-task reading e = refl
 read-task (writing x) e = absurd (false≢true e)
 
-module _ {old : Log} {mask i : ℕ} {w : World} {ts : List Told} {ops : List Operation} {vs : List ℕ} (R : Run old mask w i ts ops vs) where
+module _ {old : Log} {C : Setting} {i : ℕ} {w : World} {ts : List Told} {ops : List Operation} {vs : List ℕ} (R : Run old C w i ts ops vs) where
   -- of two views that opened one holds every update of the other
   pub views-nested : (u v : ℕ) → u ∈ vs → v ∈ vs → (withinOf u v ≡ true) ⊎ (withinOf v u ≡ true)
   views-nested u v a b = nested-test (demand3 (R .sound) .one-chain (R .book .opened u a .1) (R .book .opened v b .1))

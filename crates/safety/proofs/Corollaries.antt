@@ -28,6 +28,7 @@ use Rattle.rules.specs.Desks.{isIdle, current, viewCame, pairCame, ackCame, des
 use Rattle.rules.specs.Steps.{after, stepped}
 use Rattle.rules.specs.Runs.{lastWorld}
 use Rattle.rules.specs.Demand3.{_∈_}
+use Rattle.safety.proofs.Setting.{Setting, setting}
 use Rattle.safety.proofs.Log.{Entry, Log, _∋_, by-enter, by-reply, Has, has-start, has-shown, Sound}
 use Rattle.safety.proofs.Past.{back, sound-past, why}
 use Rattle.safety.proofs.Agreement.{history, facts, Entered, from-start, by-relay, active-entered}
@@ -44,8 +45,8 @@ abbrev pub relayAfter : ℕ → List Step → ℕ → Relay
 relayAfter mask ks s = relayAt (lastWorld (start mask) ks) s
 
 -- a view that a relay has, having entered, is an entered one
-module _ {first : ℕ} {l : Log} (S : Sound first l) where
-  has-entered : {k v s y : ℕ} → Has first l k v s y → Entered first l v
+module _ {C : Setting} {l : Log} (S : Sound C l) where
+  has-entered : {k v s y : ℕ} → Has C l k v s y → Entered C l v
   has-entered (has-start e a b) = from-start e
   has-entered (has-shown (by-enter m)) = by-relay m
   has-entered (has-shown (by-reply m)) = let x = why S m in active-entered S (back (x .past)) (x .is .active)
@@ -64,10 +65,10 @@ hands-on-entered mask h ks s o w x i e m =
 
 -- So in every world of a run, whoever has a state message on its way has entered.
 
-entered-view : {first : ℕ} {l : Log} {k v s y : ℕ} → 0 < first → Sound first l → Has first l k v s y → v ≡ 0 → ⊥
-entered-view {first} {l} {v = v} a S h z = go (start-least (history first l) (facts S) (has-entered S h))
+entered-view : {C : Setting} {l : Log} {k v s y : ℕ} → 0 < C .view → Sound C l → Has C l k v s y → v ≡ 0 → ⊥
+entered-view {C} {l} {v = v} a S h z = go (start-least (history C l) (facts S) (has-entered S h))
   where
-    go : (first ≡ v) ⊎ Inside first v → ⊥
+    go : (C .view ≡ v) ⊎ Inside (C .view) v → ⊥
     go (inl e) = omega arith
     go (inr i) = omega (arith, inside-lt i)
 
@@ -146,7 +147,7 @@ grown-may-stay = refl
 
 -- ---- THE VIEWS THAT RELAYS ENTER FORM ONE CHAIN: of the view of s after the steps ks, and of that of t after more of them, one includes the other
 
-entered-later : {first : ℕ} {l m : Log} {v : ℕ} → ((e : Entry) → l ∋ e → m ∋ e) → Entered first l v → Entered first m v
+entered-later : {C : Setting} {l m : Log} {v : ℕ} → ((e : Entry) → l ∋ e → m ∋ e) → Entered C l v → Entered C m v
 entered-later f (from-start e) = from-start e
 entered-later f (by-relay h) = by-relay (f _ h)
 
@@ -161,8 +162,8 @@ pub one-chain : (mask : ℕ) → mask < 256 → (ks more : List Step) (s t : ℕ
 one-chain mask h ks more s t i j a b =
     let R = run-steps (run-start mask h) ks .1 in
     let Q = run-steps (from-here R) more .1 in
-    let u : Entered mask (R .log) (relayAfter mask ks s .view) = has-entered (R .sound) (R .tied .relays s i .facts .has a) in
+    let u : Entered (setting mask) (R .log) (relayAfter mask ks s .view) = has-entered (R .sound) (R .tied .relays s i .facts .has a) in
     let e : relayAt (lastWorld (lastWorld (start mask) ks) more) t ≡ relayAfter mask (ks ++ more) t = ap (λ (w : World). relayAt w t) (steps-append (start mask) ks more) in
-    let v : Entered mask (Q .log) (relayAfter mask (ks ++ more) t .view) =
-    subst (λ (r : Relay). Entered mask (Q .log) (r .view)) e (has-entered (Q .sound) (Q .tied .relays t j .facts .has (ap (λ (r : Relay). r .entered) e ∙ b))) in
+    let x = has-entered (Q .sound) (Q .tied .relays t j .facts .has (ap (λ (r : Relay). r .entered) e ∙ b)) in
+    let v : Entered (setting mask) (Q .log) (relayAfter mask (ks ++ more) t .view) = subst (λ (r : Relay). Entered (setting mask) (Q .log) (r .view)) e x in
     nested-test (comparable (Q .sound) (entered-later (Q .grown) u) v)

@@ -19,6 +19,7 @@ use Rattle.rules.specs.Sending.{place, placeAll}
 use Rattle.rules.specs.Steps.{Act, Report, reports, Outcome, refusal, done, roomy, relayDoes, deskDoes}
 use Rattle.rules.specs.History.{Told, begin as beginning, endedBy, operation, openedBy}
 use Rattle.rules.specs.Demand3.{eventOf}
+use Rattle.safety.proofs.Setting.{Setting}
 use Rattle.safety.proofs.Lists.{All, all-none, all-more, all-append, all-map, all-image, those-pass}
 use Rattle.safety.proofs.Numbers.{num, Small}
 use Rattle.safety.proofs.Log.{Task, Op, Log, begin, finish, Active, Sound}
@@ -44,23 +45,23 @@ NoEnd r = (i : ℕ) (ts : List Told) → endedBy i ts (r .event) (r .who) ≡ []
 abbrev pub EndOf : Report → Op → Pair → Type 0
 EndOf r o p = (i : ℕ) (ts : List Told) → endedBy i ts (r .event) (r .who) ≡ operation ts (o .desk) i (eventOf (o .task)) p ∷ []
 
-pub data Deed (start : ℕ) (l : Log) (a : Act) (r : Report) : Log → Type 0 where
-  quiet : {m : Log} → Since Plain l m → Still a → NoEnd r → openedBy (r .event) ≡ [] → Deed start l a r m
-  opens : {m : Log} (k v : ℕ) → Since Plain l m → Still a → NoEnd r → openedBy (r .event) ≡ v ∷ [] → Active start m k v → Deed start l a r m
-  begun : {m : Log} (n t : ℕ) (x : Task) → n < 4 → Since Plain (begin n t x ∷ l) m → Begins a n x → NoEnd r → openedBy (r .event) ≡ [] → Deed start l a r m
+pub data Deed (C : Setting) (l : Log) (a : Act) (r : Report) : Log → Type 0 where
+  quiet : {m : Log} → Since Plain l m → Still a → NoEnd r → openedBy (r .event) ≡ [] → Deed C l a r m
+  opens : {m : Log} (k v : ℕ) → Since Plain l m → Still a → NoEnd r → openedBy (r .event) ≡ v ∷ [] → Active C m k v → Deed C l a r m
+  begun : {m : Log} (n t : ℕ) (x : Task) → n < 4 → Since Plain (begin n t x ∷ l) m → Begins a n x → NoEnd r → openedBy (r .event) ≡ [] → Deed C l a r m
   ended : {m : Log} (o : Op) (p : Pair) → Since Plain l m → Still a → EndOf r o p → openedBy (r .event) ≡ [] → o .stamp ≡ num (p .stamp)
       → o .value ≡ p .value → Small p
-      → Deed start l a r (finish o ∷ m)
+      → Deed C l a r (finish o ∷ m)
 
-pub record Moved (start : ℕ) (l : Log) (a : Act) (w : World) (r : Report) : Type 0 where
+pub record Moved (C : Setting) (l : Log) (a : Act) (w : World) (r : Report) : Type 0 where
   pub log : Log
-  pub sound : Sound start log
-  pub tied : WorldTied start log w
-  pub deed : Deed start l a r log
+  pub sound : Sound C log
+  pub tied : WorldTied C log w
+  pub deed : Deed C l a r log
 
-abbrev pub Moves : ℕ → Log → Act → Outcome → Type 0
-Moves start l a (refusal x) = Unit {0}
-Moves start l a (done w r s d b) = Moved start l a w r
+abbrev pub Moves : Setting → Log → Act → Outcome → Type 0
+Moves C l a (refusal x) = Unit {0}
+Moves C l a (done w r s d b) = Moved C l a w r
 
 -- ---- messages placed
 
@@ -90,9 +91,9 @@ placed l ps (all-more {x = m} h b) a = placed l (place m ps) b (place-backed l m
 
 -- ---- one relay, or one desk, changed
 
-module _ {start : ℕ} {l m : Log} (w : World) (h : WorldTied start l w) where
-  pub with-relay : (s : ℕ) (r : Relay) (ss : List Sending) → s < 8 → Since (ByRelay s) l m → RelayTied start m s r → All (SendingBacked m s) ss
-      → WorldTied start m (withPlaces (withRelay w s r) (placeAll (outgoing s ss) (w .places)))
+module _ {C : Setting} {l m : Log} (w : World) (h : WorldTied C l w) where
+  pub with-relay : (s : ℕ) (r : Relay) (ss : List Sending) → s < 8 → Since (ByRelay s) l m → RelayTied C m s r → All (SendingBacked m s) ss
+      → WorldTied C m (withPlaces (withRelay w s r) (placeAll (outgoing s ss) (w .places)))
   with-relay s r ss i g t b = record {
     eight = length-set (w .relays) s r ∙ h .eight;
     four = h .four;
@@ -101,12 +102,12 @@ module _ {start : ℕ} {l m : Log} (w : World) (h : WorldTied start l w) where
     places = placed m (w .places) (outgoing-backed m s b) (places-since g (h .places));
   }
     where
-      go : (j : ℕ) → j < 8 → Dec (j ≡ s) → RelayTied start m j (getD (set (w .relays) s r) j noRelay)
+      go : (j : ℕ) → j < 8 → Dec (j ≡ s) → RelayTied C m j (getD (set (w .relays) s r) j noRelay)
       go j k (yes e) = rw (e, getD-set-same (w .relays) s r noRelay (omega (arith, h .eight))) t
       go j k (no n) = rw (getD-set-other (w .relays) s j r noRelay n) (relay-by-relay j s n g (h .relays j k))
 
   pub with-desk : (n : ℕ) (d : Desk) (ss : List Sending) → n < 4 → Since (ByDesk n) l m → DeskTied m n d → All (SendingBacked m (8 + n)) ss
-      → WorldTied start m (withPlaces (withDesk w n d) (placeAll (outgoing (8 + n) ss) (w .places)))
+      → WorldTied C m (withPlaces (withDesk w n d) (placeAll (outgoing (8 + n) ss) (w .places)))
   with-desk n d ss i g t b = record {
     eight = h .eight;
     four = length-set (w .desks) n d ∙ h .four;
@@ -121,15 +122,15 @@ module _ {start : ℕ} {l m : Log} (w : World) (h : WorldTied start l w) where
 
 -- ---- an answer committed
 
-module _ {start : ℕ} {l : Log} (a : Act) (w : World) (h : WorldTied start l w) where
-  pub relay-does : (n s : ℕ) → s < 8 → Still a → (x : Answer Relay) → RelayDone start l s x → Moves start l a (relayDoes w n s x)
+module _ {C : Setting} {l : Log} (a : Act) (w : World) (h : WorldTied C l w) where
+  pub relay-does : (n s : ℕ) → s < 8 → Still a → (x : Answer Relay) → RelayDone C l s x → Moves C l a (relayDoes w n s x)
   unfolding relayDoes
   relay-does n s i f (refused z) t = tt
   relay-does n s i f (does r ss e) t =
-      cases (Moves start l a) (roomy w (outgoing s ss) && (leb (length (r .generators)) 8 && leb (length (r .transfers)) 8))
+      cases (Moves C l a) (roomy w (outgoing s ss) && (leb (length (r .generators)) 8 && leb (length (r .transfers)) 8))
       (λ _. record { log = t .log; sound = t .sound; tied = with-relay w h s r ss i (t .since) (t .tied) (t .sent); deed = deed e (t .tells) }) (λ _. tt)
     where
-      deed : (e : Event) → Tells start (t .log) s e → Deed start l a (reports e s) (t .log)
+      deed : (e : Event) → Tells C (t .log) s e → Deed C l a (reports e s) (t .log)
       deed nothing u = quiet (since-map (relay-plain s) (t .since)) f (λ j ts. refl) refl
       deed (opened v) u = opens s v (since-map (relay-plain s) (t .since)) f (λ j ts. refl) refl u
       deed (readDone p) u = absurd u
@@ -139,11 +140,11 @@ module _ {start : ℕ} {l : Log} (a : Act) (w : World) (h : WorldTied start l w)
   ending-by goes-on = stay
   ending-by (ends o z d x y u) = add (ap of-desk d) stay
 
-  pub desk-does : (c n : ℕ) → n < 4 → Still a → (x : Answer Desk) → DeskDone start l n x → Moves start l a (deskDoes w c n x)
+  pub desk-does : (c n : ℕ) → n < 4 → Still a → (x : Answer Desk) → DeskDone C l n x → Moves C l a (deskDoes w c n x)
   unfolding deskDoes
   desk-does c n i f (refused z) t = tt
   desk-does c n i f (does d ss e) t =
-      cases (Moves start l a) (roomy w (outgoing (8 + n) ss))
+      cases (Moves C l a) (roomy w (outgoing (8 + n) ss))
       (λ _. record {
         log = t .log;
         sound = t .sound;
@@ -160,6 +161,6 @@ module _ {start : ℕ} {l : Log} (a : Act) (w : World) (h : WorldTied start l w)
       told-open says-read = refl
       told-open says-write = refl
 
-      deed : {e : Event} {g : Log} → Ending n (t .mid) e g → Deed start l a (reports e n) g
+      deed : {e : Event} {g : Log} → Ending n (t .mid) e g → Deed C l a (reports e n) g
       deed goes-on = quiet (since-map (λ e b. b .1) (t .quiet)) f (λ j ts. refl) refl
       deed (ends {p = p} o z b x y u) = ended o p (since-map (λ e b. b .1) (t .quiet)) f (λ j ts. rw b (told-end z j ts)) (told-open z) x y u

@@ -4,6 +4,7 @@ use mathlib.Core.Logic.{_⊎_, inl, inr}
 use mathlib.Core.List.{[], _∷_, List·Memᴰ·head, List·Memᴰ·tail, List·Memᴰ·not-nil, List·Memᴰ·cases-cons}
 use Prim.Native.Nat.{ℕ, suc, _≤_, _<_}
 use native.Mathlib.Omega.{arith}
+use Rattle.safety.proofs.Setting.{Setting}
 use Rattle.safety.proofs.Quorums.{Most}
 use Rattle.safety.proofs.Log.{Task, Op, Ask, get, put, Entry, tag, Log, _∋_, begin, ask, reply, settle, finish, Begin, sends-get, sends-put, Asks, Result, Settle, Ends, put-down, Finish, Sound}
 use Rattle.safety.proofs.Growth.{of-desk, doer, ByDesk}
@@ -173,7 +174,7 @@ module _ {l : Log} {d n u m : ℕ} {a : Task} (k : DeskFacts l d n u (asking m a
     abbrev op : Op
     op = record { desk = d; try = m; task = a; stamp = s; value = y }
 
-    pub settle-justified : Result l d n u a s y → Settle l op
+    pub settle-justified : {C : Setting} → Result C l d n u a s y → Settle C l op
     settle-justified r = record { begun = begun; once = unsettled; try = n; view = u; asked = asked; result = r }
 
     -- and goes on to put
@@ -184,7 +185,7 @@ module _ {l : Log} {d n u m : ℕ} {a : Task} (k : DeskFacts l d n u (asking m a
       sends = sends-put {o = op} (List·Memᴰ·head refl) refl refl;
     }
 
-    module _ {start : ℕ} (S : Sound start l) where
+    module _ {C : Setting} (S : Sound C l) where
       unfinished : l ∋ finish op → ⊥
       unfinished h = let w = why S h in unsettled op (past-has (back (w .past)) (w .is .settled)) refl refl
 
@@ -197,7 +198,7 @@ module _ {l : Log} {d n u m : ℕ} {a : Task} (k : DeskFacts l d n u (asking m a
       }
 
       -- or it ends at once
-      pub at-once-justified : Ends (settle op ∷ l) op → Finish (settle op ∷ l) op
+      pub at-once-justified : Ends C (settle op ∷ l) op → Finish C (settle op ∷ l) op
       at-once-justified e = record { settled = List·Memᴰ·head refl; once = λ h. unfinished (past-kind (omega arith) h); ends = e }
 
       pub desk-rests-at-once : DeskFacts (finish op ∷ settle op ∷ l) d n u resting
@@ -241,13 +242,13 @@ module _ {l : Log} {d n u : ℕ} {o : Op} (k : DeskFacts l d n u (putting o)) wh
         (λ h. now-puts .open-still (past-kind (omega arith) h));
   }
 
-  pub finish-justified : Most u (λ j. (r : ℕ) × (z : ℕ) × (l ∋ reply j d n u r z)) → Finish l o
-  finish-justified h = record { settled = now-puts .settle-is; once = now-puts .open-still; ends = ends (now-puts .mine) }
+  pub finish-justified : {C : Setting} → Most C u (λ j. (r : ℕ) × (z : ℕ) × (l ∋ reply j d n u r z)) → Finish C l o
+  finish-justified {C} h = record { settled = now-puts .settle-is; once = now-puts .open-still; ends = ends (now-puts .mine) }
     where
-      ends : o .desk ≡ d → Ends l o
+      ends : o .desk ≡ d → Ends C l o
       ends e = put-down
           (subst (λ (x : ℕ). l ∋ ask x n (o .try) u (put (o .stamp) (o .value))) (sym e) (now-puts .ask-is))
-          (subst (λ (x : ℕ). Most u (λ j. (r : ℕ) × (z : ℕ) × (l ∋ reply j x n u r z))) (sym e) h)
+          (subst (λ (x : ℕ). Most C u (λ j. (r : ℕ) × (z : ℕ) × (l ∋ reply j x n u r z))) (sym e) h)
 
   pub desk-rests : DeskFacts (finish o ∷ l) d n u resting
   desk-rests = record { tries = tries-finish (k .tries); done = λ b c h. inr (done (k .done b c (past-kind (omega arith) h))); doing = rests }

@@ -19,6 +19,7 @@ use Rattle.rules.specs.declared.Desk.{Desk}
 use Rattle.rules.specs.declared.Phase.{Phase}
 use Rattle.rules.specs.declared.Phase.the-variants.{Read1, Read2, Write1, Write2}
 use Rattle.rules.specs.Desks.{ended, isIdle, isFirst, isSecond, full, current, agrees, notesPair, notesAck, takesStamp, completes, counted, pairCame, ackCame, deskHears}
+use Rattle.safety.proofs.Setting.{Setting}
 use Rattle.safety.proofs.Lists.{all-none}
 use Rattle.safety.proofs.Quorums.{Most}
 use Rattle.safety.proofs.Numbers.{num, Small, Greater, takes, stays, greatest-num, greatest-small, same-num}
@@ -99,16 +100,16 @@ module _ {l : Log} {n : ℕ} (d : Desk) (from : ℕ) where
 settles-on : {o : Op} → Asking (o .desk) (settle o)
 settles-on = (refl, (λ d t a c. omega (arith, ap tag c), λ o c. omega (arith, ap tag c)))
 
-module _ {start : ℕ} {l : Log} {n : ℕ} (S : Sound start l) (s : n < 4) (d : Desk) (q : reachesOf (d .view) (d .replied) ≡ true) where
+module _ {C : Setting} {l : Log} {n : ℕ} (S : Sound C l) (s : n < 4) (d : Desk) (q : reachesOf (d .view) (d .replied) ≡ true) where
   -- "read 1 ends with event 2 if all stamps agreed, else read 2 puts back the greatest"
-  read1-done : {m : ℕ} → Firsts l n d → DeskFacts l n (d .tries) (d .view) (asking m reading) → DeskDone start l n (completes n d Read1)
+  read1-done : {m : ℕ} → Firsts l n d → DeskFacts l n (d .tries) (d .view) (asking m reading) → DeskDone C l n (completes n d Read1)
   unfolding completes
   read1-done {m} F f =
       let r : ℕ = num (d .best .stamp) in
       let y : ℕ = d .best .value in
       let o : Op = record { desk = n; try = m; task = reading; stamp = r; value = y } in
-      let S1 : Sound start (settle o ∷ l) = sound-more (settle o) S (settle-justified f r y (read-justified q (F .notes))) in
-      cases (DeskDone start l n) (d .agreed)
+      let S1 : Sound C (settle o ∷ l) = sound-more (settle o) S (settle-justified f r y (read-justified q (F .notes))) in
+      cases (DeskDone C l n) (d .agreed)
       (λ e. record {
         mid = settle o ∷ l;
         quiet = add {e = settle o} settles-on stay;
@@ -126,7 +127,7 @@ module _ {start : ℕ} {l : Log} {n : ℕ} (S : Sound start l) (s : n < 4) (d : 
       (at-read2 refl (clear-acks d Read2 (d .view) (d .best) (suc (d .tries)) refl refl (F .small))))
 
   -- "write 1 takes (greatest count + 1, own number) and starts write 2"
-  write1-done : {m : ℕ} → Firsts l n d → DeskFacts l n (d .tries) (d .view) (asking m (writing (d .holds .value))) → DeskDone start l n (completes n d Write1)
+  write1-done : {m : ℕ} → Firsts l n d → DeskFacts l n (d .tries) (d .view) (asking m (writing (d .holds .value))) → DeskDone C l n (completes n d Write1)
   unfolding completes takesStamp
   write1-done {m} F f =
       let c : ℕ = num (d .best .stamp) in
@@ -135,18 +136,18 @@ module _ {start : ℕ} {l : Log} {n : ℕ} (S : Sound start l) (s : n < 4) (d : 
       let p : Pair = record { stamp = record { count = d .best .stamp .count + 1; desk = n }; value = y } in
       let o : Op = record { desk = n; try = m; task = writing y; stamp = r; value = y } in
       let e : r ≡ num (p .stamp) = omega (arith, F .small) in
-      let S1 : Sound start (settle o ∷ l) = sound-more (settle o) S (settle-justified f r y (write-justified q (F .notes))) in
-      cases (DeskDone start l n) (full (d .best .stamp .count)) (λ z. tt)
+      let S1 : Sound C (settle o ∷ l) = sound-more (settle o) S (settle-justified f r y (write-justified q (F .notes))) in
+      cases (DeskDone C l n) (full (d .best .stamp .count)) (λ z. tt)
       (λ z. begins-done d Write2 (d .view) p refl (add {e = settle o} settles-on stay) S1 (put-justified f r y) (desk-puts f r y S)
       (at-write2 refl (clear-acks d Write2 (d .view) p (suc (d .tries)) e refl s)))
 
-  acknowledged : {o : Op} → Acks l n d o → Most (d .view) (λ k. (r : ℕ) × (z : ℕ) × (l ∋ reply k n (d .tries) (d .view) r z))
+  acknowledged : {o : Op} → Acks l n d o → Most C (d .view) (λ k. (r : ℕ) × (z : ℕ) × (l ∋ reply k n (d .tries) (d .view) r z))
   acknowledged A = record { voters = d .replied; quorum = q; each = λ k a i b. A .each k b }
 
   mine : {o : Op} → Doing l n (d .tries) (d .view) (putting o) → o .desk ≡ n
   mine (puts-now e b c a g) = e
 
-  acked : {o : Op} {e : Event} → Says (o .task) e (d .holds) → Acks l n d o → DeskFacts l n (d .tries) (d .view) (putting o) → DeskStep start l n (ended d) [] e
+  acked : {o : Op} {e : Event} → Says (o .task) e (d .holds) → Acks l n d o → DeskFacts l n (d .tries) (d .view) (putting o) → DeskStep C l n (ended d) [] e
   acked {o} says A f = record {
     mid = l;
     quiet = stay;
@@ -158,7 +159,7 @@ module _ {start : ℕ} {l : Log} {n : ℕ} (S : Sound start l) (s : n < 4) (d : 
   }
 
   -- "write 2 ends, event 3; .. read 2 ends, event 2"
-  completes-done : {p : Phase} {g : Stage} → Phased l n d p g → d .phase ≡ p → DeskFacts l n (d .tries) (d .view) g → DeskDone start l n (completes n d p)
+  completes-done : {p : Phase} {g : Stage} → Phased l n d p g → d .phase ≡ p → DeskFacts l n (d .tries) (d .view) g → DeskDone C l n (completes n d p)
   unfolding completes
   completes-done at-rest e f = still d S (record { stage = resting; facts = f; phased = rw e at-rest })
   completes-done (at-read1 F) e f = read1-done F f
@@ -166,10 +167,10 @@ module _ {start : ℕ} {l : Log} {n : ℕ} (S : Sound start l) (s : n < 4) (d : 
   completes-done (at-read2 t A) e f = acked (rw t says-read) A f
   completes-done (at-write2 t A) e f = acked (rw t says-write) A f
 
-module _ {start : ℕ} {l : Log} {n : ℕ} (S : Sound start l) (s : n < 4) where
-  counted-done : (d : Desk) → DeskTied l n d → DeskDone start l n (counted n d)
+module _ {C : Setting} {l : Log} {n : ℕ} (S : Sound C l) (s : n < 4) where
+  counted-done : (d : Desk) → DeskTied l n d → DeskDone C l n (counted n d)
   unfolding counted
-  counted-done d h = cases (DeskDone start l n) (reaches (d .view) (d .replied)) (λ q. completes-done S s d q (h .phased) refl (h .facts)) (λ e. still d S h)
+  counted-done d h = cases (DeskDone C l n) (reaches (d .view) (d .replied)) (λ q. completes-done S s d q (h .phased) refl (h .facts)) (λ e. still d S h)
 
   module _ (d : Desk) (h : DeskTied l n d) (from try : ℕ) where
     -- the try asked the members of the desk's view, so what answers it was said in that view
@@ -190,10 +191,10 @@ module _ {start : ℕ} {l : Log} {n : ℕ} (S : Sound start l) (s : n < 4) where
         let a = asked-now (h .phased) (not-true _ (i .0)) (h .facts .doing) in
         subst (λ (z : ℕ). l ∋ reply from n (d .tries) z x y) (reply-view S r (a .2)) r
 
-    pair-done : (p : Pair) → Backed l from (8 + n) (pairReply try p) → DeskDone start l n (pairCame n d from try p)
+    pair-done : (p : Pair) → Backed l from (8 + n) (pairReply try p) → DeskDone C l n (pairCame n d from try p)
     unfolding pairCame notesPair
     pair-done p b =
-        cases (DeskDone start l n) (current d from try && isFirst (d .phase))
+        cases (DeskDone C l n) (current d from try && isFirst (d .phase))
         (λ e.
         let c = and-eq-true-iff (current d from try) (isFirst (d .phase)) .0 e in
         counted-done (notesPair d from p) (record { stage = h .stage; facts = h .facts; phased = go (h .phased) (c .1) (said-here (c .0) (b .2) (b .3)) }))
@@ -207,10 +208,10 @@ module _ {start : ℕ} {l : Log} {n : ℕ} (S : Sound start l) (s : n < 4) where
         go (at-read2 t A) e m = absurd (false≢true e)
         go (at-write2 t A) e m = absurd (false≢true e)
 
-    ack-done : Backed l from (8 + n) (ack try) → DeskDone start l n (ackCame n d from try)
+    ack-done : Backed l from (8 + n) (ack try) → DeskDone C l n (ackCame n d from try)
     unfolding ackCame notesAck
     ack-done b =
-        cases (DeskDone start l n) (current d from try && isSecond (d .phase))
+        cases (DeskDone C l n) (current d from try && isSecond (d .phase))
         (λ e.
         let c = and-eq-true-iff (current d from try) (isSecond (d .phase)) .0 e in
         counted-done (notesAck d from) (record { stage = h .stage; facts = h .facts; phased = go (h .phased) (c .1) (b .3, b .4, said-here (c .0) (b .2) (b .5)) }))
@@ -226,7 +227,7 @@ module _ {start : ℕ} {l : Log} {n : ℕ} (S : Sound start l) (s : n < 4) where
 
   -- ---- a message from `from` comes to the desk n
 
-  pub desk-hears : (d : Desk) → DeskTied l n d → (from : ℕ) (b : Body) → Backed l from (8 + n) b → DeskDone start l n (deskHears n d from b)
+  pub desk-hears : (d : Desk) → DeskTied l n d → (from : ℕ) (b : Body) → Backed l from (8 + n) b → DeskDone C l n (deskHears n d from b)
   unfolding deskHears
   desk-hears d h from (viewReply try v) b = view-done S d h from try v
   desk-hears d h from (pairReply try p) b = pair-done d h from try p b

@@ -16,6 +16,7 @@ use Rattle.rules.specs.declared.Phase.{Phase}
 use Rattle.rules.specs.declared.Phase.the-variants.{Read1, Read2, Write1, Write2}
 use Rattle.rules.specs.State.{crashedDesk}
 use Rattle.rules.specs.Desks.{isIdle, full, cleared, asks, begins, readAsked, writeAsked, current, viewCame}
+use Rattle.safety.proofs.Setting.{Setting}
 use Rattle.safety.proofs.Lists.{All, all-none}
 use Rattle.safety.proofs.Numbers.{num, Small}
 use Rattle.safety.proofs.Log.{Task, reading, writing, Op, Ask, Entry, tag, Log, begin, ask, finish, Asks, Sound}
@@ -40,18 +41,18 @@ pub data Ending (n : ℕ) (l : Log) : Event → Log → Type 0 where
   ends : {e : Event} {p : Pair} (o : Op) → Says (o .task) e p → o .desk ≡ n → o .stamp ≡ num (p .stamp) → o .value ≡ p .value → Small p
       → Ending n l e (finish o ∷ l)
 
-pub record DeskStep (start : ℕ) (l : Log) (n : ℕ) (d : Desk) (ss : List Sending) (e : Event) : Type 0 where
+pub record DeskStep (C : Setting) (l : Log) (n : ℕ) (d : Desk) (ss : List Sending) (e : Event) : Type 0 where
   pub mid : Log
   pub quiet : Since (Asking n) l mid
   pub log : Log
   pub ending : Ending n mid e log
-  pub sound : Sound start log
+  pub sound : Sound C log
   pub tied : DeskTied log n d
   pub sent : All (SendingBacked log (8 + n)) ss
 
-abbrev pub DeskDone : ℕ → Log → ℕ → Answer Desk → Type 0
-DeskDone start l n (refused x) = Unit {0}
-DeskDone start l n (does d ss e) = DeskStep start l n d ss e
+abbrev pub DeskDone : Setting → Log → ℕ → Answer Desk → Type 0
+DeskDone C l n (refused x) = Unit {0}
+DeskDone C l n (does d ss e) = DeskStep C l n d ss e
 
 pub tied-crashed : {l : Log} {n : ℕ} {d : Desk} → DeskTied l n d → DeskTied l n (crashedDesk d)
 unfolding crashedDesk
@@ -87,18 +88,18 @@ said e (at-write1 x) (asks-now b q g) k = (_, _, refl, q)
 said e (at-read2 z x) (puts-now i b c q g) k = (_, _, refl, rw (x .stamp-is, x .value-is) at q, x .small)
 said e (at-write2 z x) (puts-now i b c q g) k = (_, _, refl, rw (x .stamp-is, x .value-is) at q, x .small)
 
-module _ {start : ℕ} {l : Log} {n : ℕ} where
-  pub still : (d : Desk) → Sound start l → DeskTied l n d → DeskDone start l n (quietly d)
+module _ {C : Setting} {l : Log} {n : ℕ} where
+  pub still : (d : Desk) → Sound C l → DeskTied l n d → DeskDone C l n (quietly d)
   still d S h = record { mid = l; quiet = stay; log = l; ending = goes-on; sound = S; tied = h; sent = all-none }
 
-  pub begins-done : (d : Desk) (ph : Phase) (v : ℕ) (p : Pair) {s : Stage} {m : Log} {o : ℕ} {a : Ask} → isIdle ph ≡ false → Since (Asking n) l m → Sound start m
+  pub begins-done : (d : Desk) (ph : Phase) (v : ℕ) (p : Pair) {s : Stage} {m : Log} {o : ℕ} {a : Ask} → isIdle ph ≡ false → Since (Asking n) l m → Sound C m
       → Asks m n (suc (d .tries)) o a → DeskFacts (ask n (suc (d .tries)) o v a ∷ m) n (suc (d .tries)) v s
-      → Phased (ask n (suc (d .tries)) o v a ∷ m) n (cleared d ph v p (suc (d .tries))) ph s → DeskDone start l n (begins d ph v p)
+      → Phased (ask n (suc (d .tries)) o v a ∷ m) n (cleared d ph v p (suc (d .tries))) ph s → DeskDone C l n (begins d ph v p)
   unfolding begins
   begins-done d ph v p {s} {m} {o} {a} i g S j h f =
       let e : Entry = ask n (suc (d .tries)) o v a in
-      cases (DeskDone start l n) (full (d .tries)) (λ _. tt)
-      (λ _. subst (λ (t : ℕ). DeskStep start l n (cleared d ph v p t) (toMembers v (asks ph t v p) ∷ []) nothing) up (record {
+      cases (DeskDone C l n) (full (d .tries)) (λ _. tt)
+      (λ _. subst (λ (t : ℕ). DeskStep C l n (cleared d ph v p t) (toMembers v (asks ph t v p) ∷ []) nothing) up (record {
         mid = e ∷ m;
         quiet = add {e = e} (refl, (λ d t a c. omega (arith, ap tag c), λ o c. omega (arith, ap tag c))) g;
         log = e ∷ m;
@@ -113,7 +114,7 @@ module _ {start : ℕ} {l : Log} {n : ℕ} where
 
 -- ---- "READ and WRITE are NOT NOW unless the desk is idle."
 
-module _ {start : ℕ} {l : Log} {n : ℕ} (S : Sound start l) (d : Desk) (h : DeskTied l n d) where
+module _ {C : Setting} {l : Log} {n : ℕ} (S : Sound C l) (d : Desk) (h : DeskTied l n d) where
   idle-rests : isIdle (d .phase) ≡ true → DeskFacts l n (d .tries) (d .view) resting
   idle-rests e = go (h .phased) (h .facts) e
     where
@@ -125,20 +126,20 @@ module _ {start : ℕ} {l : Log} {n : ℕ} (S : Sound start l) (d : Desk) (h : D
       go (at-write2 x y) f e = absurd (false≢true e)
 
   -- an operation begins: the log has its begin, then the rest
-  pub begin-sound : (a : Task) → n < 4 → isIdle (d .phase) ≡ true → Sound start (begin n (suc (d .tries)) a ∷ l)
+  pub begin-sound : (a : Task) → n < 4 → isIdle (d .phase) ≡ true → Sound C (begin n (suc (d .tries)) a ∷ l)
   begin-sound a s e = sound-more (begin n (suc (d .tries)) a) S (begin-justified (idle-rests e) s)
 
   module _ (s : n < 4) where
-    pub read-done : DeskDone start (begin n (suc (d .tries)) reading ∷ l) n (readAsked d)
+    pub read-done : DeskDone C (begin n (suc (d .tries)) reading ∷ l) n (readAsked d)
     unfolding readAsked
-    read-done = cases (DeskDone start (begin n (suc (d .tries)) reading ∷ l) n) (isIdle (d .phase))
+    read-done = cases (DeskDone C (begin n (suc (d .tries)) reading ∷ l) n) (isIdle (d .phase))
         (λ e. begins-done d Read1 (d .view) zeroPair refl stay (begin-sound reading s e) (first-ask-justified (idle-rests e)) (desk-begins (idle-rests e))
         (at-read1 (clear-firsts d Read1 (d .view) zeroPair (suc (d .tries)))))
         (λ e. tt)
 
-    pub write-done : (x : ℕ) → DeskDone start (begin n (suc (d .tries)) (writing x) ∷ l) n (writeAsked d x)
+    pub write-done : (x : ℕ) → DeskDone C (begin n (suc (d .tries)) (writing x) ∷ l) n (writeAsked d x)
     unfolding writeAsked
-    write-done x = cases (DeskDone start (begin n (suc (d .tries)) (writing x) ∷ l) n) (isIdle (d .phase))
+    write-done x = cases (DeskDone C (begin n (suc (d .tries)) (writing x) ∷ l) n) (isIdle (d .phase))
         (λ e.
         let p : Pair = record { stamp = zeroPair .stamp; value = x } in
         begins-done d Write1 (d .view) p refl stay (begin-sound (writing x) s e) (first-ask-justified (idle-rests e)) (desk-begins (idle-rests e))
@@ -147,7 +148,7 @@ module _ {start : ℕ} {l : Log} {n : ℕ} (S : Sound start l) (d : Desk) (h : D
 
   -- "A view reply that strictly includes the desk's view is adopted and the phase starts again; any other does nothing."
   restarts : (v : ℕ) {p : Phase} {s : Stage} → Phased l n d p s → DeskFacts l n (d .tries) (d .view) s → isIdle p ≡ false
-      → DeskDone start l n (begins d p v (d .holds))
+      → DeskDone C l n (begins d p v (d .holds))
   restarts v at-rest f e = absurd (false≢true (sym e))
   restarts v (at-read1 x) f e =
       begins-done d Read1 v (d .holds) e stay S (again-justified f) (desk-again f) (at-read1 (clear-firsts d Read1 v (d .holds) (suc (d .tries))))
@@ -160,9 +161,9 @@ module _ {start : ℕ} {l : Log} {n : ℕ} (S : Sound start l) (d : Desk) (h : D
       begins-done d Write2 v (d .holds) e stay S (put-again-justified f) (desk-puts-again f)
       (at-write2 t (clear-acks d Write2 v (d .holds) (suc (d .tries)) (x .stamp-is) (x .value-is) (x .small)))
 
-  pub view-done : (from try v : ℕ) → DeskDone start l n (viewCame d from try v)
+  pub view-done : (from try v : ℕ) → DeskDone C l n (viewCame d from try v)
   unfolding viewCame
   view-done from try v =
-      cases (DeskDone start l n) (current d from try && inside (d .view) v)
+      cases (DeskDone C l n) (current d from try && inside (d .view) v)
       (λ e. restarts v (h .phased) (h .facts) (not-true _ (and-eq-true-iff (not (isIdle (d .phase))) _ .0 (and-eq-true-iff (current d from try) (inside (d .view) v) .0 e .0) .0)))
       (λ e. still d S h)

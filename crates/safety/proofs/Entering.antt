@@ -19,6 +19,7 @@ use Rattle.rules.specs.Messages.{Sending, state as stateSays, toMembers, Answer
 use Rattle.rules.specs.State.{Transfer, Relay, withActive, withTransfers}
 use Rattle.rules.specs.Generators.{generatorFor, proposes}
 use Rattle.rules.specs.Relays.{atGenerator, freshTransfer, isFor, transferFor, putTransfer, keeps, gathers, passes, moved, onward, enters, tested, early, stopped, handed, takesInstall, sentFirst, installHeard, stateHeard}
+use Rattle.safety.proofs.Setting.{Setting}
 use Rattle.safety.proofs.Lists.{All, all-none, all-more, all-append, all-those}
 use Rattle.safety.proofs.Sequences.{Single}
 use Rattle.safety.proofs.Bridge.{in-has, kept-least, beyond-without, beyond-single, beyond-kept}
@@ -91,20 +92,20 @@ for-new o w (t ∷ ts) =
 
 -- ---- the entry test
 
-module _ {start : ℕ} {l : Log} {k : ℕ} (S : Sound start l) where
+module _ {C : Setting} {l : Log} {k : ℕ} (S : Sound C l) where
   -- "Then stamp and value become the best received, .. view is w, entered; .. If q has views above w, propose those for w, not active; else active, event 1."
-  module _ (r : Relay) (t : Transfer) (h : RelayTied start l k r) (d : TransferTied l t) (p : Plan l (t .old) (t .new) (t .sequence)) (i : Inside (r .view) (t .new))
-      (m : reachesOf (t .old) (t .senders) ≡ true) where
+  module _ (r : Relay) (t : Transfer) (h : RelayTied C l k r) (d : TransferTied l t) (p : Plan l (t .old) (t .new) (t .sequence))
+      (i : Inside (r .view) (t .new)) (m : reachesOf (t .old) (t .senders) ≡ true) where
     abbrev entering : Log
     entering = enter k (t .old) (t .new) (t .sequence) (num (t .best .stamp)) (t .best .value) ∷ l
 
-    entering-sound : Sound start entering
+    entering-sound : Sound C entering
     entering-sound = sound-more _ S (enter-justified (p .raised) (kept-least (p .kept) (p .least)) m (d .notes))
 
     entering-since : Since (ByRelay k) l entering
     entering-since = add {e = enter k (t .old) (t .new) (t .sequence) (num (t .best .stamp)) (t .best .value)} (inl refl) stay
 
-    moved-tied : (active : Bool) → (active ≡ true → Single (t .new) (t .sequence)) → RelayTied start entering k (moved r t active)
+    moved-tied : (active : Bool) → (active ≡ true → Single (t .new) (t .sequence)) → RelayTied C entering k (moved r t active)
     unfolding moved
     moved-tied active f = record {
       facts = relay-enter (h .facts) i f;
@@ -117,10 +118,10 @@ module _ {start : ℕ} {l : Log} {k : ℕ} (S : Sound start l) where
       transfers = all-those (λ u. inside (t .new) (u .new)) (transfers-since one-more (h .transfers));
     }
 
-    enters-done : RelayDone start l k (enters r t)
+    enters-done : RelayDone C l k (enters r t)
     unfolding enters moved
     enters-done =
-        cases (RelayDone start l k) (none (onward t))
+        cases (RelayDone C l k) (none (onward t))
         (λ e.
         let one = beyond-single (p .kept) (p .least) e in
         record {
@@ -133,50 +134,51 @@ module _ {start : ℕ} {l : Log} {k : ℕ} (S : Sound start l) where
         })
         (λ e.
         let now = moved-tied false (λ z. absurd (false≢true z)) in
+        let proposing = proposes (generatorFor (t .new) (r .generators)) (onward t) in
         let turn = proposes-done entering-sound (generatorFor (t .new) (r .generators)) (now .generators (t .new))
         (by-entry (List·Memᴰ·head refl) (beyond-without (p .kept) (p .least))) (beyond-kept (p .kept) (t .new) e) in
-        after-entries start entering-since (atGenerator (moved r t false) (proposes (generatorFor (t .new) (r .generators)) (onward t))) (at-generator (moved r t false) (proposes (generatorFor (t .new) (r .generators)) (onward t)) now turn))
+        after-entries C entering-since (atGenerator (moved r t false) proposing) (at-generator (moved r t false) proposing now turn))
 
   -- "Entry test: install present and a quorum of o has sent state."
-  tested-done : (r : Relay) (t : Transfer) → RelayTied start l k r → TransferTied l t → Inside (r .view) (t .new) → RelayDone start l k (tested r t)
+  tested-done : (r : Relay) (t : Transfer) → RelayTied C l k r → TransferTied l t → Inside (r .view) (t .new) → RelayDone C l k (tested r t)
   unfolding tested withTransfers
   tested-done r t h d i =
-      cases (RelayDone start l k) (passes t)
+      cases (RelayDone C l k) (passes t)
       (λ e.
       let b = and-eq-true-iff (not (none (t .sequence))) (reaches (t .old) (t .senders)) .0 e in
       enters-done (withTransfers r (putTransfer t (r .transfers))) t kept d (⊎-elim (λ z. absurd (contrary (rw z at (b .0)) refl)) (λ p. p) (d .plan)) i (b .1))
       (λ e. nothing-done S _ kept)
     where
-      kept : RelayTied start l k (withTransfers r (putTransfer t (r .transfers)))
+      kept : RelayTied C l k (withTransfers r (putTransfer t (r .transfers)))
       kept = tied-as h (r .alive) (r .known) (r .pending) (putTransfer t (r .transfers)) (h .updates) (put-tied t d (h .transfers))
 
   -- "If its view is inside w and it is a member of w, the transfer keeps q unless it has one already; then the entry test."
-  takes-done : (r : Relay) (o w : ℕ) (q : List ℕ) → RelayTied start l k r → Plan l o w q → RelayDone start l k (takesInstall k r o w q)
+  takes-done : (r : Relay) (o w : ℕ) (q : List ℕ) → RelayTied C l k r → Plan l o w q → RelayDone C l k (takesInstall k r o w q)
   unfolding takesInstall keeps
   takes-done r o w q h p =
       let t : Transfer = transferFor o w (r .transfers) in
-      cases (RelayDone start l k) (inside (r .view) w && member w k)
+      cases (RelayDone C l k) (inside (r .view) w && member w k)
       (λ e.
       let i = inside-fact (r .view) w (and-eq-true-iff (inside (r .view) w) (member w k) .0 e .0) in
       tested-done r (keeps t q) h (keeps-tied t q (for-tied o w (h .transfers)) (rw (for-old o w (r .transfers), for-new o w (r .transfers)) p)) (rw (for-new o w (r .transfers)) i))
       (λ e. nothing-done S r h)
 
   -- State: "nothing unless the receiver's view is inside w. Else note sender, greatest stamp with its value, updates; then the entry test."
-  pub state-done : (r : Relay) (from o w : ℕ) (p : Pair) (u : ℕ) → RelayTied start l k r → States l o w from (num (p .stamp)) (p .value) → Small p → u < 65536
-      → RelayDone start l k (stateHeard r from o w p u)
+  pub state-done : (r : Relay) (from o w : ℕ) (p : Pair) (u : ℕ) → RelayTied C l k r → States l o w from (num (p .stamp)) (p .value) → Small p → u < 65536
+      → RelayDone C l k (stateHeard r from o w p u)
   unfolding stateHeard gathers
   state-done r from o w p u h s a b =
       let t : Transfer = transferFor o w (r .transfers) in
-      cases (RelayDone start l k) (inside (r .view) w)
+      cases (RelayDone C l k) (inside (r .view) w)
       (λ e. tested-done r (gathers t from p u) h (gathers-tied t from p u (for-tied o w (h .transfers)) (rw (for-old o w (r .transfers), for-new o w (r .transfers)) s) a b)
       (rw (for-new o w (r .transfers)) (inside-fact (r .view) w e))) (λ e. nothing-done S r h)
 
 -- ---- "Install(o, w, q)"
 
-first-sent : (start : ℕ) {l : Log} {k : ℕ} (ss : List Sending) (a : Answer Relay) → RelayDone start l k a → All (SendingBacked l k) ss
-    → RelayDone start l k (sentFirst ss a)
-first-sent start ss (refused x) h b = h
-first-sent start ss (does r later e) h b = record {
+first-sent : (C : Setting) {l : Log} {k : ℕ} (ss : List Sending) (a : Answer Relay) → RelayDone C l k a → All (SendingBacked l k) ss
+    → RelayDone C l k (sentFirst ss a)
+first-sent C ss (refused x) h b = h
+first-sent C ss (does r later e) h b = record {
   log = h .log;
   since = h .since;
   sound = h .sound;
@@ -185,7 +187,7 @@ first-sent start ss (does r later e) h b = record {
   tells = h .tells;
 }
 
-module _ {start : ℕ} {l : Log} {k : ℕ} (S : Sound start l) (r : Relay) (o w : ℕ) (h : RelayTied start l k r) where
+module _ {C : Setting} {l : Log} {k : ℕ} (S : Sound C l) (r : Relay) (o w : ℕ) (h : RelayTied C l k r) where
   -- a member of o whose view is o or beyond has entered
   pub entered-there : member o k ≡ true → (r .view ≡ o) ⊎ Inside o (r .view) → r .entered ≡ true
   entered-there m i = ⊎-elim (λ e. e) (λ e. absurd (nowhere (h .outside e) i)) (decided (r .entered))
@@ -198,9 +200,9 @@ module _ {start : ℕ} {l : Log} {k : ℕ} (S : Sound start l) (r : Relay) (o w 
   handing = state k (r .view) o w (num (r .holds .stamp)) (r .holds .value) ∷ l
 
   -- "A member of o, if its view is inside w, stops being active;"
-  stopped-tied : member o k ≡ true → RelayTied start handing k (stopped k r o w)
+  stopped-tied : member o k ≡ true → RelayTied C handing k (stopped k r o w)
   unfolding withActive
-  stopped-tied m = rw m (cases (RelayTied start handing k) (inside (r .view) w)
+  stopped-tied m = rw m (cases (RelayTied C handing k) (inside (r .view) w)
       (λ e. record {
         facts = relay-state (h .facts) (λ z. absurd (false≢true z));
         outside = h .outside;
@@ -224,21 +226,21 @@ module _ {start : ℕ} {l : Log} {k : ℕ} (S : Sound start l) (r : Relay) (o w 
 
   -- "in any case it sends state(o, w, stamp, value, pending) to w's members."
   hands : member o k ≡ true → (r .view ≡ o) ⊎ Inside o (r .view) → (q : List ℕ) → Plan l o w q
-      → RelayDone start l k (sentFirst (handed k r o w) (takesInstall k (stopped k r o w) o w q))
+      → RelayDone C l k (sentFirst (handed k r o w) (takesInstall k (stopped k r o w) o w q))
   hands m i q p =
-      after-entries start {l = l} {m = handing} {k = k} (add {e = state k (r .view) o w (num (r .holds .stamp)) (r .holds .value)} (inl refl) stay)
+      after-entries C {l = l} {m = handing} {k = k} (add {e = state k (r .view) o w (num (r .holds .stamp)) (r .holds .value)} (inl refl) stay)
       (sentFirst (handed k r o w) (takesInstall k (stopped k r o w) o w q))
-      (first-sent start (handed k r o w) (takesInstall k (stopped k r o w) o w q)
+      (first-sent C (handed k r o w) (takesInstall k (stopped k r o w) o w q)
       (takes-done (sound-more _ S (state-justified (h .facts) (entered-there m i) i)) (stopped k r o w) o w q (stopped-tied m) (plan-since one-more p))
       (rw m (sent-alike handing k (toMembers w (stateSays o w (r .holds) (r .pending))) (λ n. (r .view, List·Memᴰ·head refl, h .small, h .updates, member-lt o k m)))))
 
   -- "NOT YET exactly if the receiver is a member of o and its own view neither equals nor includes o (view 0 never does)."
-  pub install-done : (q : List ℕ) → Plan l o w q → RelayDone start l k (installHeard k r o w q)
+  pub install-done : (q : List ℕ) → Plan l o w q → RelayDone C l k (installHeard k r o w q)
   unfolding installHeard
-  install-done q p = cases (RelayDone start l k) (early k r o) (λ e. tt) (λ e. ⊎-elim (λ m. hands m (there m e) q p) others (decided (member o k)))
+  install-done q p = cases (RelayDone C l k) (early k r o) (λ e. tt) (λ e. ⊎-elim (λ m. hands m (there m e) q p) others (decided (member o k)))
     where
       there : member o k ≡ true → early k r o ≡ false → (r .view ≡ o) ⊎ Inside o (r .view)
       there m e = ⊎-elim (λ d. inl (eqb-true (r .view) o d)) (λ d. inr (inside-fact o (r .view) d)) (either-true (eqb (r .view) o) (inside o (r .view)) (not-false _ (rw m at e)))
 
-      others : member o k ≡ false → RelayDone start l k (sentFirst (handed k r o w) (takesInstall k (stopped k r o w) o w q))
-      others m = rw m (first-sent start [] (takesInstall k r o w q) (takes-done S r o w q h p) all-none)
+      others : member o k ≡ false → RelayDone C l k (sentFirst (handed k r o w) (takesInstall k (stopped k r o w) o w q))
+      others m = rw m (first-sent C [] (takesInstall k r o w q) (takes-done S r o w q h p) all-none)

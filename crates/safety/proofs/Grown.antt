@@ -10,6 +10,7 @@ use Rattle.rules.specs.Messages.{Body, request, view, proposal, converged, inst
 use Rattle.rules.specs.State.{Generator, Transfer, Relay, Place, free, waiting}
 use Rattle.rules.specs.declared.Desk.{Desk}
 use Rattle.rules.specs.declared.Phase.{Phase}
+use Rattle.safety.proofs.Setting.{Setting}
 use Rattle.safety.proofs.Lists.{All, all-none, all-more, all-map}
 use Rattle.safety.proofs.Log.{Op, Entry, Log, _∋_, conv}
 use Rattle.safety.proofs.Growth.{Since, stay, add, since-has, one-more, doer, ByRelay, ByDesk, About, Turning, relay-only, not-desk}
@@ -113,8 +114,8 @@ module _ {l : Log} {e : Entry} {k : ℕ} where
   pub generators-more : (gs : List Generator) → ((v : ℕ) (q : List ℕ) → conv k v q ≡ e → ⊥) → GeneratorsTied l k gs → GeneratorsTied (e ∷ l) k gs
   generators-more gs n h v = generator-more (n v) (h v)
 
-  pub relay-more : {start : ℕ} {r : Relay} → (About k e → ⊥) → ((v : ℕ) (q : List ℕ) → conv k v q ≡ e → ⊥) → RelayTied start l k r
-      → RelayTied start (e ∷ l) k r
+  pub relay-more : {C : Setting} {r : Relay} → (About k e → ⊥) → ((v : ℕ) (q : List ℕ) → conv k v q ≡ e → ⊥) → RelayTied C l k r
+      → RelayTied C (e ∷ l) k r
   relay-more {r = r} a n h = record {
     facts = relay-other (h .facts) a;
     outside = h .outside;
@@ -131,13 +132,13 @@ desk-more f h = record { stage = h .stage; facts = desk-other (h .facts) f; phas
 
 -- ---- entries of others
 
-module _ {start : ℕ} {r : Relay} where
-  pub relay-by-relay : (j k : ℕ) {l m : Log} → (j ≡ k → ⊥) → Since (ByRelay k) l m → RelayTied start l j r → RelayTied start m j r
+module _ {C : Setting} {r : Relay} where
+  pub relay-by-relay : (j k : ℕ) {l m : Log} → (j ≡ k → ⊥) → Since (ByRelay k) l m → RelayTied C l j r → RelayTied C m j r
   relay-by-relay j k n stay h = h
   relay-by-relay j k n (add b s) h =
       relay-more (λ a. n (relay-only b (a .0))) (λ v q c. n (relay-only b (ap doer (sym c)))) (relay-by-relay j k n s h)
 
-  pub relay-by-desk : (j d : ℕ) {l m : Log} → Since (ByDesk d) l m → RelayTied start l j r → RelayTied start m j r
+  pub relay-by-desk : (j d : ℕ) {l m : Log} → Since (ByDesk d) l m → RelayTied C l j r → RelayTied C m j r
   relay-by-desk j d stay h = h
   relay-by-desk j d (add b s) h =
       relay-more (λ a. not-desk (inl (a .0)) b) (λ v q c. not-desk (inl (ap doer (sym c))) b) (relay-by-desk j d s h)
@@ -154,8 +155,8 @@ module _ {d : Desk} where
 -- ---- the entries of one generator: no other of its relay's is touched, nor the relay's record
 
 module _ (k v : ℕ) where
-  pub facts-turning : {start : ℕ} {l m : Log} {u s y : ℕ} {i a : Bool} → Since (Turning k v) l m
-      → RelayFacts start l k u s y i a → RelayFacts start m k u s y i a
+  pub facts-turning : {C : Setting} {l m : Log} {u s y : ℕ} {i a : Bool} → Since (Turning k v) l m
+      → RelayFacts C l k u s y i a → RelayFacts C m k u s y i a
   facts-turning stay h = h
   facts-turning (add b s) h = relay-other (facts-turning s h) (λ a. omega arith)
 

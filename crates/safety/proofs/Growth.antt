@@ -4,6 +4,7 @@ use mathlib.Core.Logic.{_⊎_, inl, inr}
 use mathlib.Core.List.{List, _∷_, List·Memᴰ·tail}
 use Prim.Native.Nat.{ℕ, _≤_, _<_}
 use native.Mathlib.Omega.{arith}
+use Rattle.safety.proofs.Setting.{Setting}
 use Rattle.safety.proofs.Log.{Task, Op, Entry, tag, Log, _∋_, first, own, conv, raise, state, enter, begin, ask, reply, settle, finish, Active, active-start, active-enter}
 use Rattle.safety.proofs.Past.{Past, now, past-later}
 
@@ -85,7 +86,7 @@ module _ {x : Doer} {k : ℕ} where
 pub relay-plain : (k : ℕ) (e : Entry) → ByRelay k e → Plain e
 relay-plain k e h = (λ d t a c. not-desk h (ap doer (sym c)), λ o c. not-desk h (ap doer (sym c)))
 
-module _ {P : Entry → Type 0} {start : ℕ} where
-  pub active-since : {l m : Log} {k v : ℕ} → Since P l m → Active start l k v → Active start m k v
+module _ {P : Entry → Type 0} {C : Setting} where
+  pub active-since : {l m : Log} {k v : ℕ} → Since P l m → Active C l k v → Active C m k v
   active-since s (active-start e) = active-start e
   active-since s (active-enter h i) = active-enter (since-has s h) i

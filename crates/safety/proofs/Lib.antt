@@ -1,6 +1,7 @@
 -- DEMAND 3 over the rules. To read: Safety (the theorem), Corollaries; Ties (how a world is tied to its log) and Log (what justifies an entry).
 
 -- The static half: any log whose entries are justified. No world, no bytes.
+pub mod Setting
 pub mod Quorums
 pub mod Sequences
 pub mod Votes

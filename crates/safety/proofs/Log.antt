@@ -1,6 +1,6 @@
 -- The log of all that ever happened, newest first, and what justifies an entry by the entries before it.
 -- A view is a number (views/proofs/Sets) and a sequence a list of views (`Sequences.antt`). A stamp (count, desk) is the number 4 count + desk,
--- so that stamps are ordered as numbers (`Numbers.antt`). `start` is the view in which the run starts.
+-- so that stamps are ordered as numbers (`Numbers.antt`). C is what is given of the run (`Setting.antt`).
 -- Assumes nothing.
 use mathlib.Core.Path.{_≡_}
 use mathlib.Core.Logic.{_⊎_}
@@ -8,6 +8,7 @@ use mathlib.Core.List.{List, [], _∷_, List·Memᴰ}
 use Prim.Native.Nat.{ℕ, _+_, _*_, _≤_, _<_}
 use Rattle.views.proofs.Sets.{Inside}
 pub use Rattle.rules.specs.History.{Task, reading, writing}
+use Rattle.safety.proofs.Setting.{Setting}
 use Rattle.safety.proofs.Sequences.{_∈_, _⊆_, Comparable, Sequence, Above, Least, Single, Without}
 use Rattle.safety.proofs.Votes.{Union}
 use Rattle.safety.proofs.Quorums.{Most}
@@ -77,15 +78,15 @@ pub data Shown (l : Log) (k v s y : ℕ) : Type 0 where
 abbrev pub Current : Log → ℕ → ℕ → ℕ → Type 0
 Current l k v s = (u r y : ℕ) → Shown l k u r y → Inside u v ⊎ ((u ≡ v) × (r ≤ s))
 
-module _ (start : ℕ) where
+module _ (C : Setting) where
   -- where its view v, its stamp s and its value y come from
   pub data Has (l : Log) (k v s y : ℕ) : Type 0 where
-    has-start : v ≡ start → s ≡ 0 → y ≡ 0 → Has l k v s y
+    has-start : v ≡ C .view → s ≡ 0 → y ≡ 0 → Has l k v s y
     has-shown : Shown l k v s y → Has l k v s y
 
   -- it became active in v
   pub data Active (l : Log) (k v : ℕ) : Type 0 where
-    active-start : v ≡ start → Active l k v
+    active-start : v ≡ C .view → Active l k v
     active-enter : {o s y : ℕ} {q : List ℕ} → l ∋ enter k o v q s y → Single v q → Active l k v
 
 -- ---- what justifies an entry, in the log l before it
@@ -109,8 +110,8 @@ pub record Conv (l : Log) (k v : ℕ) (q : List ℕ) : Type 0 where
   pub own-now : l ∋ own k v q
   pub grown : (p : List ℕ) → l ∋ conv k v p → p ⊆ q
 
-abbrev pub Raise : Log → ℕ → List ℕ → Type 0
-Raise l v q = Most v (λ k. l ∋ conv k v q)
+abbrev pub Raise : Setting → Log → ℕ → List ℕ → Type 0
+Raise C l v q = Most C v (λ k. l ∋ conv k v q)
 
 -- k handed on from o to w, with a stamp that is at most s
 pub record Given (l : Log) (o w s k : ℕ) : Type 0 where
@@ -125,10 +126,10 @@ pub data Best (P : ℕ → ℕ → Type 0) (s y : ℕ) : Type 0 where
   best-none : s ≡ 0 → y ≡ 0 → Best P s y
   best-one : P s y → Best P s y
 
-pub record Enter (l : Log) (o w : ℕ) (q : List ℕ) (s y : ℕ) : Type 0 where
+pub record Enter (C : Setting) (l : Log) (o w : ℕ) (q : List ℕ) (s y : ℕ) : Type 0 where
   pub raised : l ∋ raise o q
   pub least : Least w q
-  pub given : Most o (Given l o w s)
+  pub given : Most C o (Given l o w s)
   pub best : Best (λ r z. (k : ℕ) × ((x : ℕ) × (l ∋ state k x o w r z))) s y
 
 -- a desk's tries grow, and it does one operation at a time
@@ -155,44 +156,44 @@ pub record Answered (l : Log) (d t v s k : ℕ) : Type 0 where
 
 -- what the first phase makes of the answers to its try t in v: a read takes the greatest; a write takes the count above c, where no
 -- answer's count is above c
-pub data Result (l : Log) (d t v : ℕ) : Task → ℕ → ℕ → Type 0 where
-  read-result : {s y : ℕ} → Most v (Answered l d t v s) → Best (λ r z. (k : ℕ) × (l ∋ reply k d t v r z)) s y → Result l d t v reading s y
-  write-result : {y : ℕ} (c : ℕ) → Most v (Answered l d t v (4 * c + 3)) → Result l d t v (writing y) (4 * (c + 1) + d) y
+pub data Result (C : Setting) (l : Log) (d t v : ℕ) : Task → ℕ → ℕ → Type 0 where
+  read-result : {s y : ℕ} → Most C v (Answered l d t v s) → Best (λ r z. (k : ℕ) × (l ∋ reply k d t v r z)) s y → Result C l d t v reading s y
+  write-result : {y : ℕ} (c : ℕ) → Most C v (Answered l d t v (4 * c + 3)) → Result C l d t v (writing y) (4 * (c + 1) + d) y
 
-pub record Settle (l : Log) (o : Op) : Type 0 where
+pub record Settle (C : Setting) (l : Log) (o : Op) : Type 0 where
   pub begun : l ∋ begin (o .desk) (o .try) (o .task)
   pub once : (p : Op) → l ∋ settle p → p .desk ≡ o .desk → p .try ≡ o .try → ⊥
   pub try : ℕ
   pub view : ℕ
   pub asked : l ∋ ask (o .desk) try (o .try) view get
-  pub result : Result l (o .desk) try view (o .task) (o .stamp) (o .value)
+  pub result : Result C l (o .desk) try view (o .task) (o .stamp) (o .value)
 
 -- the last quorum: a read's replies agreed on the stamp, or all replied to a put of it
-pub data Ends (l : Log) (o : Op) : Type 0 where
-  agreed : {t v : ℕ} → Most v (λ k. (z : ℕ) × (l ∋ reply k (o .desk) t v (o .stamp) z)) → Ends l o
+pub data Ends (C : Setting) (l : Log) (o : Op) : Type 0 where
+  agreed : {t v : ℕ} → Most C v (λ k. (z : ℕ) × (l ∋ reply k (o .desk) t v (o .stamp) z)) → Ends C l o
   put-down : {t v : ℕ} → l ∋ ask (o .desk) t (o .try) v (put (o .stamp) (o .value))
-      → Most v (λ k. (r : ℕ) × (z : ℕ) × (l ∋ reply k (o .desk) t v r z)) → Ends l o
+      → Most C v (λ k. (r : ℕ) × (z : ℕ) × (l ∋ reply k (o .desk) t v r z)) → Ends C l o
 
-pub record Finish (l : Log) (o : Op) : Type 0 where
+pub record Finish (C : Setting) (l : Log) (o : Op) : Type 0 where
   pub settled : l ∋ settle o
   pub once : l ∋ finish o → ⊥
-  pub ends : Ends l o
+  pub ends : Ends C l o
 
-module _ (start : ℕ) where
+module _ (C : Setting) where
   -- the relay proposes: by its timer, being active; or on entering v, what is left of the sequence
   pub data First (l : Log) (k v : ℕ) (q : List ℕ) : Type 0 where
-    by-timer : Active start l k v → First l k v q
+    by-timer : Active C l k v → First l k v q
     by-entry : {o s y : ℕ} {r : List ℕ} → l ∋ enter k o v r s y → Without v r q → First l k v q
 
   pub record State (l : Log) (k x o s y : ℕ) : Type 0 where
     pub reached : (x ≡ o) ⊎ Inside o x
-    pub has : Has start l k x s y
+    pub has : Has C l k x s y
     pub current : Current l k x s
 
   -- the answer to a get is what the relay has; a put is stored where greater, and answered either way
   pub data Answers (l : Log) (k v s y : ℕ) : Ask → Type 0 where
-    got : Has start l k v s y → Answers l k v s y get
-    kept : {r z : ℕ} → Has start l k v s y → r ≤ s → Answers l k v s y (put r z)
+    got : Has C l k v s y → Answers l k v s y get
+    kept : {r z : ℕ} → Has C l k v s y → r ≤ s → Answers l k v s y (put r z)
     stored : Answers l k v s y (put s y)
 
   -- only an active relay answers: it opened v, and has not handed on from it
@@ -201,7 +202,7 @@ module _ (start : ℕ) where
     pub asked : Ask
     pub to : l ∋ ask d t try v asked
     pub answers : Answers l k v s y asked
-    pub active : Active start l k v
+    pub active : Active C l k v
     pub going : (o w r z : ℕ) → l ∋ state k v o w r z → Inside v w → ⊥
     pub current : Current l k v s
 
@@ -209,14 +210,14 @@ module _ (start : ℕ) where
   Justified l (first k v q) = First l k v q
   Justified l (own k v q) = Own l k v q
   Justified l (conv k v q) = Conv l k v q
-  Justified l (raise v q) = Raise l v q
+  Justified l (raise v q) = Raise C l v q
   Justified l (state k x o w s y) = State l k x o s y
-  Justified l (enter k o w q s y) = Enter l o w q s y
+  Justified l (enter k o w q s y) = Enter C l o w q s y
   Justified l (begin d t a) = Begin l d t
   Justified l (ask d t n v a) = Asks l d t n a
   Justified l (reply k d t v s y) = Reply l k d t v s y
-  Justified l (settle o) = Settle l o
-  Justified l (finish o) = Finish l o
+  Justified l (settle o) = Settle C l o
+  Justified l (finish o) = Finish C l o
 
   -- every entry is justified by those before it
   pub data Sound : Log → Type 0 where

@@ -12,6 +12,7 @@ use borrow.Author.Tests.{eqb-true}
 use Rattle.views.specs.View.{bitOf, reachesOf}
 use Rattle.views.proofs.Truth.{contrary, either-true}
 use Rattle.views.proofs.Digits.{bit-none, bit-or, bit-one}
+use Rattle.safety.proofs.Setting.{Setting}
 use Rattle.safety.proofs.Sequences.{Least}
 use Rattle.safety.proofs.Quorums.{Most, most-map}
 use Rattle.safety.proofs.Log.{Log, _∋_, state, reply, raise, reading, writing, Best, best-none, best-one, Enter, Answered, Result, read-result, write-result}
@@ -58,7 +59,7 @@ module _ {P : ℕ → ℕ → ℕ → Type 0} {m s y j r z : ℕ} (n : Notes P m
   note-other l = record { each = each-more (omega arith) l; best = n .best }
 
 -- where those who sent are a quorum
-pub notes-most : {P : ℕ → ℕ → ℕ → Type 0} {v m s y : ℕ} → reachesOf v m ≡ true → Notes P m s y → Most v (Sent P s)
+pub notes-most : {C : Setting} {P : ℕ → ℕ → ℕ → Type 0} {v m s y : ℕ} → reachesOf v m ≡ true → Notes P m s y → Most C v (Sent P s)
 notes-most {m = m} q n = record { voters = m; quorum = q; each = λ k l i d. n .each k d }
 
 -- a transfer from o to w lets a relay enter w, and a desk's first phase comes to its result
@@ -68,8 +69,8 @@ States l o w k r z = (x : ℕ) × (l ∋ state k x o w r z)
 abbrev pub Replies : Log → ℕ → ℕ → ℕ → ℕ → ℕ → ℕ → Type 0
 Replies l d n u k r z = l ∋ reply k d n u r z
 
-module _ {l : Log} {m s y : ℕ} where
-  pub enter-justified : {o w : ℕ} {q : List ℕ} → l ∋ raise o q → Least w q → reachesOf o m ≡ true → Notes (States l o w) m s y → Enter l o w q s y
+module _ {C : Setting} {l : Log} {m s y : ℕ} where
+  pub enter-justified : {o w : ℕ} {q : List ℕ} → l ∋ raise o q → Least w q → reachesOf o m ≡ true → Notes (States l o w) m s y → Enter C l o w q s y
   enter-justified h t q n = record {
     raised = h;
     least = t;
@@ -78,12 +79,12 @@ module _ {l : Log} {m s y : ℕ} where
   }
 
   module _ {d n u : ℕ} (q : reachesOf u m ≡ true) (b : Notes (Replies l d n u) m s y) where
-    answered : Most u (Answered l d n u s)
+    answered : Most C u (Answered l d n u s)
     answered = most-map (λ k a. record { stamp = a .stamp; value = a .value; sent = a .sent; low = a .low }) (notes-most q b)
 
-    pub read-justified : Result l d n u reading s y
+    pub read-justified : Result C l d n u reading s y
     read-justified = read-result answered (b .best)
 
     -- the count of the greatest stamp is the greatest count
-    pub write-justified : {x : ℕ} → Result l d n u (writing x) (4 * (s / 4 + 1) + d) x
+    pub write-justified : {x : ℕ} → Result C l d n u (writing x) (4 * (s / 4 + 1) + d) x
     write-justified = write-result (s / 4) (most-map (λ k a. record { stamp = a .stamp; value = a .value; sent = a .sent; low = omega (arith, a .low) }) answered)

@@ -5,6 +5,7 @@ use mathlib.Core.List.{[], _∷_, List·Memᴰ·head, List·Memᴰ·tail, List·
 use Prim.Native.Nat.{ℕ, _≤_, _<_}
 use native.Mathlib.Omega.{arith}
 use native.Mathlib.Decide.{ℕ-discrete}
+use Rattle.safety.proofs.Setting.{Setting}
 use Rattle.safety.proofs.Log.{Task, reading, writing, Op, Entry, tag, Log, _∋_, first, own, conv, raise, state, enter, begin, ask, reply, settle, finish, Sound}
 use Rattle.safety.proofs.Past.{Past, now, back, past-has, past-trans, here, sound-past, justified, why}
 use Rattle.safety.proofs.Operations.{Writes, Reads, Precedes, begin-once, never-less, write-positive, write-once, Backed, nothing, written, backed, write-value}
@@ -125,7 +126,7 @@ data Source (o : Op) (r : Ops) : Type 0 where
   zero : o .stamp ≡ 0 → o .value ≡ 0 → Source o r
   write : {w : Op} → r contains w → Writes w → w .stamp ≡ o .stamp → w .value ≡ o .value → Source o r
 
-module _ {start : ℕ} {t : Log} (S : Sound start t) where
+module _ {C : Setting} {t : Log} (S : Sound C t) where
   -- o is new to the operations r
   record New (o : Op) (r : Ops) : Type 0 where
     absent : r contains o → ⊥

@@ -7,6 +7,7 @@ use mathlib.Core.Path.{_≡_, refl, sym, subst, _∙_}
 use mathlib.Core.List.{List, [], _∷_, List·Memᴰ·head, List·Memᴰ·tail, List·Memᴰ·not-nil}
 use Prim.Native.Nat.{ℕ, _+_, _*_, _≤_, _<_}
 use native.Mathlib.Omega.{arith}
+use Rattle.safety.proofs.Setting.{Setting}
 use Rattle.safety.proofs.Quorums.{Most, most-map}
 use Rattle.safety.proofs.Log.{Task, reading, writing, Op, Ask, get, put, Entry, Log, _∋_, state, enter, begin, ask, reply, settle, finish, Has, has-start, has-shown, by-enter, by-reply, Best, best-none, best-one, Sends, sends-get, sends-put, Answered, Result, read-result, write-result, Ends, agreed, put-down, Answers, got, kept, stored, Justified, Sound}
 use Rattle.safety.proofs.Past.{Past, now, back, past-has, past-trans, places, Places, same, earlier, later, here, sound-past, justified, because, Why, why}
@@ -24,13 +25,13 @@ pub record Precedes (t : Log) (o p : Op) : Type 0 where
   pub began : Past t (begin (p .desk) (p .try) (p .task) ∷ before)
   pub ended : before ∋ finish o
 
-module _ {start : ℕ} {t : Log} (S : Sound start t) where
+module _ {C : Setting} {t : Log} (S : Sound C t) where
   -- ---- names that are given once
 
   pub ask-once : {d n a b v w : ℕ} {x y : Ask} → t ∋ ask d n a v x → t ∋ ask d n b w y → (a ≡ b) × (v ≡ w) × (x ≡ y)
   ask-once {d} {n} {a} {b} {v} {w} {x} {y} m k = go (why S m) (why S k)
     where
-      go : Why start t (ask d n a v x) → Why start t (ask d n b w y) → (a ≡ b) × (v ≡ w) × (x ≡ y)
+      go : Why C t (ask d n a v x) → Why C t (ask d n b w y) → (a ≡ b) × (v ≡ w) × (x ≡ y)
       go f g = pick (places (f .past) (g .past))
         where
           pick : Places (ask d n a v x) (f .before) (ask d n b w y) (g .before) → (a ≡ b) × (v ≡ w) × (x ≡ y)
@@ -53,7 +54,7 @@ module _ {start : ℕ} {t : Log} (S : Sound start t) where
   pub settle-once : {o p : Op} → t ∋ settle o → t ∋ settle p → o .desk ≡ p .desk → o .try ≡ p .try → o ≡ p
   settle-once {o} {p} m n d e = go (why S m) (why S n)
     where
-      go : Why start t (settle o) → Why start t (settle p) → o ≡ p
+      go : Why C t (settle o) → Why C t (settle p) → o ≡ p
       go f g = pick (places (f .past) (g .past))
         where
           pick : Places (settle o) (f .before) (settle p) (g .before) → o ≡ p
@@ -67,12 +68,12 @@ module _ {start : ℕ} {t : Log} (S : Sound start t) where
   put-reached : {l : Log} {k d n a v s y r z : ℕ} → Past t l → l ∋ ask d n a v (put s y) → l ∋ reply k d n v r z → Reached l v s k
   put-reached {l} {k} {d} {n} {a} {v} {s} {y} {r} {z} p m h = go (why S (past-has p h))
     where
-      low : {x : Ask} → x ≡ put s y → {m : Log} → Answers start m k v r z x → s ≤ r
+      low : {x : Ask} → x ≡ put s y → {m : Log} → Answers C m k v r z x → s ≤ r
       low e (got f) = let z : _≡_ {A = ℕ} 0 1 = cc in omega arith
       low e (kept {r = r'} f g) = let c : r' ≡ s = cc in omega arith
       low e stored = let c : r ≡ s = cc in omega arith
 
-      go : Why start t (reply k d n v r z) → Reached l v s k
+      go : Why C t (reply k d n v r z) → Reached l v s k
       go w = record {
         desk = d;
         try = n;
@@ -82,7 +83,7 @@ module _ {start : ℕ} {t : Log} (S : Sound start t) where
         high = low (ask-once (past-has (back (w .past)) (w .is .to)) (past-has p m) .2) (w .is .answers);
       }
 
-  ends-reached : {l : Log} {o : Op} → Past t l → Ends l o → (v : ℕ) × Most v (Reached l v (o .stamp))
+  ends-reached : {l : Log} {o : Op} → Past t l → Ends C l o → (v : ℕ) × Most C v (Reached l v (o .stamp))
   ends-reached {o = o} p (agreed {t = n} {v = v} h) =
       (v, most-map (λ k a. record { desk = o .desk; try = n; stamp = o .stamp; value = a .0; sent = a .1; high = omega arith }) h)
   ends-reached p (put-down {v = v} m h) = (v, most-map (λ k a. put-reached p m (a .2)) h)
@@ -91,7 +92,7 @@ module _ {start : ℕ} {t : Log} (S : Sound start t) where
   asked-after : {l m : Log} {d n a c v : ℕ} {b : Task} {x : Ask} → Past t (begin d a b ∷ l) → Past t m → m ∋ ask d n c v x → c ≡ a → Past m l
   asked-after {l} {m} {d} {n} {a} {c} {v} {b} {x} p q h e = go (why (sound-past S q) h)
     where
-      go : Why start m (ask d n c v x) → Past m l
+      go : Why C m (ask d n c v x) → Past m l
       go w =
           let (b', g) = w .is .begun in
           let u = why (sound-past S (back (past-trans q (w .past)))) g in
@@ -102,7 +103,7 @@ module _ {start : ℕ} {t : Log} (S : Sound start t) where
       → (h : Late S l v k) × (h .stamp ≤ s)
   late {l} {m} {k} {d} {n} {a} {v} {s} p q g h = go (why (sound-past S q) (h .sent))
     where
-      go : Why start m (reply k d n v (h .stamp) (h .value)) → (h : Late S l v k) × (h .stamp ≤ s)
+      go : Why C m (reply k d n v (h .stamp) (h .value)) → (h : Late S l v k) × (h .stamp ≤ s)
       go w =
           let z = past-trans q (w .past) in
           let e = ask-once (past-has (back z) (w .is .to)) (past-has q g) .0 in
@@ -113,8 +114,8 @@ module _ {start : ℕ} {t : Log} (S : Sound start t) where
   Below reading r s = r ≤ s
   Below (writing y) r s = r < s
 
-  result-below : {l m : Log} {d n a v s y r u : ℕ} {b c : Task} → Past t (begin d a c ∷ l) → Past t m → m ∋ ask d n a v get → Result m d n v b s y
-      → Most u (Reached l u r) → Below b r s
+  result-below : {l m : Log} {d n a v s y r u : ℕ} {b c : Task} → Past t (begin d a c ∷ l) → Past t m → m ∋ ask d n a v get → Result C m d n v b s y
+      → Most C u (Reached l u r) → Below b r s
   result-below {s = s} p q g (read-result h f) st =
       let c = carried S {P = λ z. z ≤ s} (back p) st (most-map (λ k a. late p q g a) h) in
       omega (arith, c .1, c .2)
@@ -125,7 +126,7 @@ module _ {start : ℕ} {t : Log} (S : Sound start t) where
   pub inequality : {o p : Op} → Precedes t o p → t ∋ settle p → Below (p .task) (o .stamp) (p .stamp)
   inequality {o} {p} h m = go (why (sound-past S (back (h .began))) (h .ended)) (why S m)
     where
-      go : Why start (h .before) (finish o) → Why start t (settle p) → Below (p .task) (o .stamp) (p .stamp)
+      go : Why C (h .before) (finish o) → Why C t (settle p) → Below (p .task) (o .stamp) (p .stamp)
       go f w =
           let e = ends-reached (back (past-trans (back (h .began)) (f .past))) (f .is .ends) in
           result-below (h .began) (back (w .past)) (w .is .asked) (w .is .result) (most-map (λ k r. reached-later (back (f .past)) r) (e .1))
@@ -140,7 +141,7 @@ module _ {start : ℕ} {t : Log} (S : Sound start t) where
   -- ---- the stamps of writes
 
   -- a write's stamp holds its desk, and is not 0
-  write-stamp : {l : Log} {d n v s y z : ℕ} {b : Task} → Result l d n v b s y → b ≡ writing z → (c : ℕ) × (s ≡ 4 * (c + 1) + d) × (y ≡ z)
+  write-stamp : {l : Log} {d n v s y z : ℕ} {b : Task} → Result C l d n v b s y → b ≡ writing z → (c : ℕ) × (s ≡ 4 * (c + 1) + d) × (y ≡ z)
   write-stamp (read-result h f) e = let z : _≡_ {A = ℕ} 0 1 = cc in absurd (omega arith)
   write-stamp (write-result c h) e = (c, refl, cc)
 
@@ -180,10 +181,10 @@ module _ {start : ℕ} {t : Log} (S : Sound start t) where
           let y = settled-stamp n w in
           omega (arith, x .1, x .2, y .1, y .2)
 
-      begins : {a : Op} → t ∋ settle a → Why start t (begin (a .desk) (a .try) (a .task))
+      begins : {a : Op} → t ∋ settle a → Why C t (begin (a .desk) (a .try) (a .task))
       begins k = let f = why S k in why S (past-has (back (f .past)) (f .is .begun))
 
-      go : Why start t (begin (o .desk) (o .try) (o .task)) → Why start t (begin (p .desk) (p .try) (p .task)) → o ≡ p
+      go : Why C t (begin (o .desk) (o .try) (o .task)) → Why C t (begin (p .desk) (p .try) (p .task)) → o ≡ p
       go f g = pick (places (f .past) (g .past))
         where
           pick : Places (begin (o .desk) (o .try) (o .task)) (f .before) (begin (p .desk) (p .try) (p .task)) (g .before) → o ≡ p
@@ -205,9 +206,9 @@ pub data Backed (t : Log) (s y : ℕ) : Type 0 where
   nothing : s ≡ 0 → y ≡ 0 → Backed t s y
   written : {o : Op} → t ∋ settle o → Writes o → o .stamp ≡ s → o .value ≡ y → Backed t s y
 
-module _ {start : ℕ} {t : Log} (S : Sound start t) where
+module _ {C : Setting} {t : Log} (S : Sound C t) where
   module _ {l : Log} (p : Past t l) (ih : (e : Entry) (s y : ℕ) → l ∋ e → Holds e s y → Backed t s y) where
-    has-backed : {m : Log} {k v s y : ℕ} → Past l m → Has start m k v s y → Backed t s y
+    has-backed : {m : Log} {k v s y : ℕ} → Past l m → Has C m k v s y → Backed t s y
     has-backed q (has-start e f g) = nothing f g
     has-backed q (has-shown (by-enter h)) = ih _ _ _ (past-has q h) in-enter
     has-backed q (has-shown (by-reply h)) = ih _ _ _ (past-has q h) in-reply
@@ -222,10 +223,10 @@ module _ {start : ℕ} {t : Log} (S : Sound start t) where
             let g : o .value ≡ y = cc in
             subst (λ (i : ℕ). Backed t s i) g (subst (λ (i : ℕ). Backed t i (o .value)) f (ih _ _ _ (past-has q h) in-settle))
 
-        go : Why start l (ask d n a v (put s y)) → Backed t s y
+        go : Why C l (ask d n a v (put s y)) → Backed t s y
         go w = pick (back (w .past)) refl (w .is .sends)
 
-    answer-backed : {k d n a v s y : ℕ} {x : Ask} → l ∋ ask d n a v x → Answers start l k v s y x → Backed t s y
+    answer-backed : {k d n a v s y : ℕ} {x : Ask} → l ∋ ask d n a v x → Answers C l k v s y x → Backed t s y
     answer-backed h (got f) = has-backed now f
     answer-backed h (kept f g) = has-backed now f
     answer-backed h stored = put-backed h
@@ -234,11 +235,11 @@ module _ {start : ℕ} {t : Log} (S : Sound start t) where
     best-backed f (best-none d e) = nothing d e
     best-backed f (best-one h) = f _ _ h
 
-    result-backed : {d n v s y : ℕ} {b : Task} → ((z : ℕ) → b ≡ writing z → y ≡ z → Backed t s y) → Result l d n v b s y → Backed t s y
+    result-backed : {d n v s y : ℕ} {b : Task} → ((z : ℕ) → b ≡ writing z → y ≡ z → Backed t s y) → Result C l d n v b s y → Backed t s y
     result-backed f (read-result h g) = best-backed (λ r z h. ih _ _ _ (h .1) in-reply) g
     result-backed f (write-result c h) = f _ refl refl
 
-    step-backed : {e : Entry} {s y : ℕ} → t ∋ e → Justified start l e → Holds e s y → Backed t s y
+    step-backed : {e : Entry} {s y : ℕ} → t ∋ e → Justified C l e → Holds e s y → Backed t s y
     step-backed m j in-enter = best-backed (λ r z h. ih _ _ _ (h .1 .1) in-state) (j .best)
     step-backed m j in-reply = answer-backed (j .to) (j .answers)
     step-backed m j in-state = has-backed now (j .has)

@@ -3,6 +3,7 @@
 -- Assumes nothing.
 use mathlib.Core.Path.{_≡_, refl, sym, subst}
 use mathlib.Core.List.{_∷_, List·Memᴰ·head, List·Memᴰ·tail}
+use Rattle.safety.proofs.Setting.{Setting}
 use Rattle.safety.proofs.Log.{Entry, Log, _∋_, Justified, Sound, sound-cons}
 use Prim.Native.Nat.{ℕ}
 
@@ -70,32 +71,32 @@ places {l = l} {m = m} {e = e} {f = f} p q = go (times p q)
 pub here : {t l : Log} {e : Entry} → Past t (e ∷ l) → t ∋ e
 here p = past-has p (List·Memᴰ·head refl)
 
-module _ {start : ℕ} where
-  pub sound-past : {t l : Log} → Sound start t → Past t l → Sound start l
+module _ {C : Setting} where
+  pub sound-past : {t l : Log} → Sound C t → Past t l → Sound C l
   sound-past s now = s
   sound-past s (back p) = rest (sound-past s p)
     where
-      rest : {e : Entry} {l : Log} → Sound start (e ∷ l) → Sound start l
+      rest : {e : Entry} {l : Log} → Sound C (e ∷ l) → Sound C l
       rest (sound-cons s j) = s
 
-  pub justified : {t l : Log} {e : Entry} → Sound start t → Past t (e ∷ l) → Justified start l e
+  pub justified : {t l : Log} {e : Entry} → Sound C t → Past t (e ∷ l) → Justified C l e
   justified s p = last (sound-past s p)
     where
-      last : {e : Entry} {l : Log} → Sound start (e ∷ l) → Justified start l e
+      last : {e : Entry} {l : Log} → Sound C (e ∷ l) → Justified C l e
       last (sound-cons s j) = j
 
-  pub because : {t l : Log} {e f : Entry} → Sound start t → Past t (e ∷ l) → f ≡ e → Justified start l f
-  because {l = l} s p c = subst (λ (x : Entry). Justified start l x) (sym c) (justified s p)
+  pub because : {t l : Log} {e f : Entry} → Sound C t → Past t (e ∷ l) → f ≡ e → Justified C l f
+  because {l = l} s p c = subst (λ (x : Entry). Justified C l x) (sym c) (justified s p)
 
 -- one more entry, justified
-pub sound-more : {start : ℕ} {l : Log} (e : Entry) → Sound start l → Justified start l e → Sound start (e ∷ l)
+pub sound-more : {C : Setting} {l : Log} (e : Entry) → Sound C l → Justified C l e → Sound C (e ∷ l)
 sound-more e s j = sound-cons {e = e} s j
 
 -- an entry of a sound log, with its place and what justifies it there
-pub record Why (start : ℕ) (t : Log) (e : Entry) : Type 0 where
+pub record Why (C : Setting) (t : Log) (e : Entry) : Type 0 where
   pub before : Log
   pub past : Past t (e ∷ before)
-  pub is : Justified start before e
+  pub is : Justified C before e
 
-pub why : {start : ℕ} {t : Log} {e : Entry} → Sound start t → t ∋ e → Why start t e
+pub why : {C : Setting} {t : Log} {e : Entry} → Sound C t → t ∋ e → Why C t e
 why s m = let p = place m in record { before = p .before; past = p .past; is = justified s (p .past) }

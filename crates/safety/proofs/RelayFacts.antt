@@ -7,6 +7,7 @@ use mathlib.Core.List.{List, [], _∷_, List·Memᴰ·head, List·Memᴰ·tail, 
 use Prim.Native.Nat.{ℕ, _≤_, _<_}
 use native.Mathlib.Omega.{arith}
 use Rattle.views.proofs.Sets.{Inside, inside-irrefl, inside-trans}
+use Rattle.safety.proofs.Setting.{Setting}
 use Rattle.safety.proofs.Sequences.{Single}
 use Rattle.safety.proofs.Log.{Ask, Entry, tag, Log, _∋_, state, enter, ask, reply, Shown, by-enter, by-reply, Current, Has, has-start, has-shown, Active, active-start, active-enter, State, Answers, Reply}
 use Rattle.safety.proofs.Growth.{of-relay, doer, About}
@@ -15,11 +16,11 @@ use Rattle.safety.proofs.Entries.{older, past-kind}
 -- ---- a relay
 
 -- the relay k has the view v, the stamp s and the value y, has entered or not, and is active or not
-pub record RelayFacts (start : ℕ) (l : Log) (k v s y : ℕ) (in-view active : Bool) : Type 0 where
-  pub has : in-view ≡ true → Has start l k v s y
+pub record RelayFacts (C : Setting) (l : Log) (k v s y : ℕ) (in-view active : Bool) : Type 0 where
+  pub has : in-view ≡ true → Has C l k v s y
   pub current : Current l k v s
   pub handed : (x o w r z : ℕ) → l ∋ state k x o w r z → (x ≡ v) ⊎ Inside x v
-  pub opened : active ≡ true → Active start l k v
+  pub opened : active ≡ true → Active C l k v
   pub going : active ≡ true → (o w r z : ℕ) → l ∋ state k v o w r z → Inside v w → ⊥
 
 -- what an entry e may add to what is shown of k
@@ -51,23 +52,23 @@ shown-more : {l : Log} {e : Entry} {k v s y : ℕ} → Shown l k v s y → Shown
 shown-more (by-enter m) = by-enter (List·Memᴰ·tail m)
 shown-more (by-reply m) = by-reply (List·Memᴰ·tail m)
 
-module _ {start : ℕ} {l : Log} {k v s y : ℕ} {i a : Bool} (r : RelayFacts start l k v s y i a) where
-  has-more : {e : Entry} → i ≡ true → Has start (e ∷ l) k v s y
+module _ {C : Setting} {l : Log} {k v s y : ℕ} {i a : Bool} (r : RelayFacts C l k v s y i a) where
+  has-more : {e : Entry} → i ≡ true → Has C (e ∷ l) k v s y
   has-more {e} c = go (r .has c)
     where
-      go : Has start l k v s y → Has start (e ∷ l) k v s y
+      go : Has C l k v s y → Has C (e ∷ l) k v s y
       go (has-start b c d) = has-start b c d
       go (has-shown h) = has-shown (shown-more h)
 
-  active-more : {e : Entry} → a ≡ true → Active start (e ∷ l) k v
+  active-more : {e : Entry} → a ≡ true → Active C (e ∷ l) k v
   active-more {e} c = go (r .opened c)
     where
-      go : Active start l k v → Active start (e ∷ l) k v
+      go : Active C l k v → Active C (e ∷ l) k v
       go (active-start b) = active-start b
       go (active-enter m u) = active-enter (List·Memᴰ·tail m) u
 
   -- an entry that is not about k
-  pub relay-other : {e : Entry} → (About k e → ⊥) → RelayFacts start (e ∷ l) k v s y i a
+  pub relay-other : {e : Entry} → (About k e → ⊥) → RelayFacts C (e ∷ l) k v s y i a
   relay-other {e} n = record {
     has = has-more;
     current = λ u b z h. shown-cases h (λ o q c. absurd (other c refl (omega arith))) (λ d m c. absurd (other c refl (omega arith))) (λ h. r .current u b z h);
@@ -81,7 +82,7 @@ module _ {start : ℕ} {l : Log} {k v s y : ℕ} {i a : Bool} (r : RelayFacts st
 
   -- k enters w
   pub relay-enter : {o w b z : ℕ} {q : List ℕ} {opens : Bool} → Inside v w → (opens ≡ true → Single w q)
-      → RelayFacts start (enter k o w q b z ∷ l) k w b z true opens
+      → RelayFacts C (enter k o w q b z ∷ l) k w b z true opens
   relay-enter {o} {w} {b} {z} {q} j f = record {
     has = λ c. has-shown (by-enter (List·Memᴰ·head refl));
     current = λ u c x h. shown-cases h
@@ -106,7 +107,7 @@ module _ {start : ℕ} {l : Log} {k v s y : ℕ} {i a : Bool} (r : RelayFacts st
       fresh (inr h) = inside-irrefl (inside-trans h j)
 
   -- k answers
-  pub relay-reply : {d n b z : ℕ} → s ≤ b → RelayFacts start (reply k d n v b z ∷ l) k v b z i a
+  pub relay-reply : {d n b z : ℕ} → s ≤ b → RelayFacts C (reply k d n v b z ∷ l) k v b z i a
   relay-reply {d} {n} {b} {z} g = record {
     has = λ c. has-shown (by-reply (List·Memᴰ·head refl));
     current = λ u c x h. shown-cases h
@@ -119,7 +120,7 @@ module _ {start : ℕ} {l : Log} {k v s y : ℕ} {i a : Bool} (r : RelayFacts st
   }
 
   -- k hands on, and stops where w is beyond its view
-  pub relay-state : {o w : ℕ} {goes : Bool} → (goes ≡ true → (a ≡ true) × (Inside v w → ⊥)) → RelayFacts start (state k v o w s y ∷ l) k v s y i goes
+  pub relay-state : {o w : ℕ} {goes : Bool} → (goes ≡ true → (a ≡ true) × (Inside v w → ⊥)) → RelayFacts C (state k v o w s y ∷ l) k v s y i goes
   relay-state {o} {w} {goes} f = record {
     has = has-more;
     current = λ u c x h. shown-cases h
@@ -140,10 +141,10 @@ module _ {start : ℕ} {l : Log} {k v s y : ℕ} {i a : Bool} (r : RelayFacts st
       going g (inr m) h = r .going (f g .0) _ _ _ _ m h
 
   -- and so its states and answers are justified
-  pub state-justified : {o : ℕ} → i ≡ true → (v ≡ o) ⊎ Inside o v → State start l k v o s y
+  pub state-justified : {o : ℕ} → i ≡ true → (v ≡ o) ⊎ Inside o v → State C l k v o s y
   state-justified c h = record { reached = h; has = r .has c; current = r .current }
 
-  pub reply-justified : {d n m b z : ℕ} {x : Ask} → a ≡ true → l ∋ ask d n m v x → s ≤ b → Answers start l k v b z x → Reply start l k d n v b z
+  pub reply-justified : {d n m b z : ℕ} {x : Ask} → a ≡ true → l ∋ ask d n m v x → s ≤ b → Answers C l k v b z x → Reply C l k d n v b z
   reply-justified {m = m} {x = x} c h g f = record {
     try = m;
     asked = x;
@@ -155,8 +156,8 @@ module _ {start : ℕ} {l : Log} {k v s y : ℕ} {i a : Bool} (r : RelayFacts st
   }
 
 -- at the start: a member of the start view, and another relay
-pub relay-starts : (start k : ℕ) → RelayFacts start [] k start 0 0 true true
-relay-starts start k = record {
+pub relay-starts : (C : Setting) (k : ℕ) → RelayFacts C [] k (C .view) 0 0 true true
+relay-starts C k = record {
   has = λ c. has-start refl refl refl;
   current = λ u c x h. absurd (unshown h);
   handed = λ x o w c z m. absurd (List·Memᴰ·not-nil m);
@@ -164,8 +165,8 @@ relay-starts start k = record {
   going = λ c o w b z m. absurd (List·Memᴰ·not-nil m);
 }
 
-pub relay-waits : (start k : ℕ) → RelayFacts start [] k 0 0 0 false false
-relay-waits start k = record {
+pub relay-waits : (C : Setting) (k : ℕ) → RelayFacts C [] k 0 0 0 false false
+relay-waits C k = record {
   has = λ c. absurd (false≢true c);
   current = λ u c x h. absurd (unshown h);
   handed = λ x o w c z m. absurd (List·Memᴰ·not-nil m);

@@ -18,6 +18,7 @@ use Rattle.rules.specs.Messages.{request, view, Sending, toMembers, toOne, Even
 use Rattle.rules.specs.State.{Generator, Transfer, Relay, withKnown, withPending, withGenerators, crashedRelay}
 use Rattle.rules.specs.Generators.{generatorFor, putGenerator, Turn, proposes}
 use Rattle.rules.specs.Relays.{atGenerator, joinAsked, leaveAsked, timerRang, requestHeard, learns}
+use Rattle.safety.proofs.Setting.{Setting}
 use Rattle.safety.proofs.Lists.{All, all-none}
 use Rattle.safety.proofs.Bridge.{Kept}
 use Rattle.safety.proofs.Log.{Log, Active, by-timer, Sound}
@@ -27,28 +28,28 @@ use Rattle.safety.proofs.Grown.{sent-alike, transfers-since, facts-turn
 use Rattle.safety.proofs.Turns.{TurnDone, proposes-done}
 
 -- what an event of the relay k says of the log
-abbrev pub Tells : ℕ → Log → ℕ → Event → Type 0
-Tells start l k nothing = Unit {0}
-Tells start l k (opened v) = Active start l k v
-Tells start l k (readDone p) = ⊥
-Tells start l k (writeDone p) = ⊥
+abbrev pub Tells : Setting → Log → ℕ → Event → Type 0
+Tells C l k nothing = Unit {0}
+Tells C l k (opened v) = Active C l k v
+Tells C l k (readDone p) = ⊥
+Tells C l k (writeDone p) = ⊥
 
-pub record RelayStep (start : ℕ) (l : Log) (k : ℕ) (r : Relay) (ss : List Sending) (e : Event) : Type 0 where
+pub record RelayStep (C : Setting) (l : Log) (k : ℕ) (r : Relay) (ss : List Sending) (e : Event) : Type 0 where
   pub log : Log
   pub since : Since (ByRelay k) l log
-  pub sound : Sound start log
-  pub tied : RelayTied start log k r
+  pub sound : Sound C log
+  pub tied : RelayTied C log k r
   pub sent : All (SendingBacked log k) ss
-  pub tells : Tells start log k e
+  pub tells : Tells C log k e
 
-abbrev pub RelayDone : ℕ → Log → ℕ → Answer Relay → Type 0
-RelayDone start l k (refused x) = Unit {0}
-RelayDone start l k (does r ss e) = RelayStep start l k r ss e
+abbrev pub RelayDone : Setting → Log → ℕ → Answer Relay → Type 0
+RelayDone C l k (refused x) = Unit {0}
+RelayDone C l k (does r ss e) = RelayStep C l k r ss e
 
 -- entries made before the rule's others
-pub after-entries : (start : ℕ) {l m : Log} {k : ℕ} → Since (ByRelay k) l m → (a : Answer Relay) → RelayDone start m k a → RelayDone start l k a
-after-entries start s (refused x) h = h
-after-entries start s (does r ss e) h = record {
+pub after-entries : (C : Setting) {l m : Log} {k : ℕ} → Since (ByRelay k) l m → (a : Answer Relay) → RelayDone C m k a → RelayDone C l k a
+after-entries C s (refused x) h = h
+after-entries C s (does r ss e) h = record {
   log = h .log;
   since = since-join s (h .since);
   sound = h .sound;
@@ -59,9 +60,19 @@ after-entries start s (does r ss e) h = record {
 
 -- ---- parts of a relay that the log does not speak of
 
-module _ {start : ℕ} {l : Log} {k : ℕ} {r : Relay} (h : RelayTied start l k r) where
+module _ {C : Setting} {l : Log} {k : ℕ} {r : Relay} (h : RelayTied C l k r) where
   pub tied-as : (alive : Bool) (known pending : ℕ) (ts : List Transfer) → pending < 65536 → All (TransferTied l) ts
-      → RelayTied start l k (record { alive = alive; view = r .view; entered = r .entered; active = r .active; known = known; pending = pending; holds = r .holds; generators = r .generators; transfers = ts })
+      → RelayTied C l k (record {
+        alive = alive;
+        view = r .view;
+        entered = r .entered;
+        active = r .active;
+        known = known;
+        pending = pending;
+        holds = r .holds;
+        generators = r .generators;
+        transfers = ts;
+      })
   tied-as alive known pending ts p a = record {
     facts = h .facts;
     outside = h .outside;
@@ -73,15 +84,15 @@ module _ {start : ℕ} {l : Log} {k : ℕ} {r : Relay} (h : RelayTied start l k 
     transfers = a;
   }
 
-  tied-known : (v : ℕ) → RelayTied start l k (withKnown r v)
+  tied-known : (v : ℕ) → RelayTied C l k (withKnown r v)
   unfolding withKnown
   tied-known v = tied-as (r .alive) v (r .pending) (r .transfers) (h .updates) (h .transfers)
 
-  tied-pending : (u : ℕ) → u < 65536 → RelayTied start l k (withPending r u)
+  tied-pending : (u : ℕ) → u < 65536 → RelayTied C l k (withPending r u)
   unfolding withPending
   tied-pending u s = tied-as (r .alive) (r .known) u (r .transfers) s (h .transfers)
 
-  pub tied-crashed : RelayTied start l k (crashedRelay r)
+  pub tied-crashed : RelayTied C l k (crashedRelay r)
   unfolding crashedRelay
   tied-crashed = tied-as false (r .known) (r .pending) (r .transfers) (h .updates) (h .transfers)
 
@@ -103,9 +114,9 @@ put-other g (x ∷ gs) v n =
     (λ d. rw (ne-eqb (g .view) v (λ e. n (sym e)), ne-eqb (x .view) v (λ e. n (sym e ∙ eqb-true (x .view) (g .view) d))))
     (λ d. rw (put-other g gs v n))
 
-module _ {start : ℕ} {l : Log} {k : ℕ} where
+module _ {C : Setting} {l : Log} {k : ℕ} where
   -- a rule at the generator for v
-  pub at-generator : {v : ℕ} (r : Relay) (t : Turn) → RelayTied start l k r → TurnDone start l k v t → RelayDone start l k (atGenerator r t)
+  pub at-generator : {v : ℕ} (r : Relay) (t : Turn) → RelayTied C l k r → TurnDone C l k v t → RelayDone C l k (atGenerator r t)
   unfolding atGenerator withGenerators
   at-generator {v} r t h d = record {
     log = d .log;
@@ -131,32 +142,32 @@ module _ {start : ℕ} {l : Log} {k : ℕ} where
 
   -- ---- rules without an entry
 
-  module _ (S : Sound start l) where
-    pub sends-only : (r : Relay) (ss : List Sending) → RelayTied start l k r → All (SendingBacked l k) ss → RelayDone start l k (sends r ss)
+  module _ (S : Sound C l) where
+    pub sends-only : (r : Relay) (ss : List Sending) → RelayTied C l k r → All (SendingBacked l k) ss → RelayDone C l k (sends r ss)
     sends-only r ss h a = record { log = l; since = stay; sound = S; tied = h; sent = a; tells = tt }
 
-    pub nothing-done : (r : Relay) → RelayTied start l k r → RelayDone start l k (quietly r)
+    pub nothing-done : (r : Relay) → RelayTied C l k r → RelayDone C l k (quietly r)
     nothing-done r h = sends-only r [] h all-none
 
-    pub join-done : (r : Relay) → k < 8 → RelayTied start l k r → RelayDone start l k (joinAsked k r)
+    pub join-done : (r : Relay) → k < 8 → RelayTied C l k r → RelayDone C l k (joinAsked k r)
     unfolding joinAsked
     join-done r s h =
-        cases (RelayDone start l k) (r .entered || within (joins k) (r .known)) (λ e. tt)
+        cases (RelayDone C l k) (r .entered || within (joins k) (r .known)) (λ e. tt)
         (λ e. sends-only r (toMembers (r .known) (request (joins k) (r .known)) ∷ []) h (sent-alike l k (toMembers (r .known) (request (joins k) (r .known)))
         (λ n. omega (arith, pow-mono {i = k} {j = 15} (omega arith)))))
 
-    pub leave-done : (r : Relay) → k < 8 → RelayTied start l k r → RelayDone start l k (leaveAsked k r)
+    pub leave-done : (r : Relay) → k < 8 → RelayTied C l k r → RelayDone C l k (leaveAsked k r)
     unfolding leaveAsked
     leave-done r s h =
-        cases (RelayDone start l k) (member (r .view) k)
+        cases (RelayDone C l k) (member (r .view) k)
         (λ e. sends-only r (toMembers (r .view) (request (leaves k) (r .view)) ∷ []) h (sent-alike l k (toMembers (r .view) (request (leaves k) (r .view)))
         (λ n. omega (arith, pow-mono {i = 8 + k} {j = 15} (omega arith))))) (λ e. tt)
 
     -- "it proposes the sequence of one view, its own joined with the pending updates"
-    pub timer-done : (r : Relay) → RelayTied start l k r → RelayDone start l k (timerRang r)
+    pub timer-done : (r : Relay) → RelayTied C l k r → RelayDone C l k (timerRang r)
     unfolding timerRang
     timer-done r h =
-        cases (RelayDone start l k) (r .active && not (within (r .pending) (r .view)))
+        cases (RelayDone C l k) (r .active && not (within (r .pending) (r .view)))
         (λ e.
         let a = and-eq-true-iff (r .active) (not (within (r .pending) (r .view))) .0 e in
         at-generator r (proposes (generatorFor (r .view) (r .generators)) (joined (r .view) (r .pending) ∷ [])) h
@@ -170,14 +181,14 @@ module _ {start : ℕ} {l : Log} {k : ℕ} where
           has = has-first (joined (r .view) (r .pending)) [];
         }
 
-    pub request-done : (r : Relay) (from u c : ℕ) → u < 65536 → RelayTied start l k r → RelayDone start l k (requestHeard r from u c)
+    pub request-done : (r : Relay) (from u c : ℕ) → u < 65536 → RelayTied C l k r → RelayDone C l k (requestHeard r from u c)
     unfolding requestHeard
     request-done r from u c s h =
-        cases (RelayDone start l k) (not (r .entered)) (λ e. nothing-done r h)
-        (λ e. cases (RelayDone start l k) (eqb (r .view) c)
-        (λ d. nothing-done _ (cases (RelayTied start l k) (within u (r .view)) (λ f. h) (λ f. tied-pending h _ (or-lt 16 (r .pending) u (h .updates) s))))
+        cases (RelayDone C l k) (not (r .entered)) (λ e. nothing-done r h)
+        (λ e. cases (RelayDone C l k) (eqb (r .view) c)
+        (λ d. nothing-done _ (cases (RelayTied C l k) (within u (r .view)) (λ f. h) (λ f. tied-pending h _ (or-lt 16 (r .pending) u (h .updates) s))))
         (λ d. sends-only r (toOne from (view (r .view)) ∷ []) h (sent-alike l k (toOne from (view (r .view))) (λ n. tt))))
 
-    pub view-done : (r : Relay) (v : ℕ) → RelayTied start l k r → RelayDone start l k (quietly (learns r v))
+    pub view-done : (r : Relay) (v : ℕ) → RelayTied C l k r → RelayDone C l k (quietly (learns r v))
     unfolding learns
-    view-done r v h = nothing-done _ (cases (RelayTied start l k) (inside (r .known) v) (λ f. tied-known h v) (λ f. h))
+    view-done r v h = nothing-done _ (cases (RelayTied C l k) (inside (r .known) v) (λ f. tied-known h v) (λ f. h))

@@ -10,10 +10,12 @@ use Rattle.rules.specs.declared.Step.{Step}
 use Rattle.rules.specs.Runs.{outcomes, lastWorld}
 use Rattle.rules.specs.History.{Operation, nobody, toldIn, operations, unfinished, openViews}
 use Rattle.rules.specs.Demand3.{_∈_, Belongs, ended, returned, Demand3, Demand3ForAll}
+use Rattle.safety.proofs.Setting.{setting}
 use Rattle.safety.proofs.Running.{Run, run-start, run-steps}
 use Rattle.safety.proofs.Carried.{views-nested, events-told, ended-once, ended-over, Counted, has-ended, was-returned, the-order, order-all, order-only, order-is}
 
-module _ (mask : ℕ) (ks : List Step) (j : ℕ) (R : Run [] mask (lastWorld (start mask) ks) j (toldIn 1 nobody ks (outcomes (start mask) ks)) (operations mask ks) (openViews mask ks)) where
+module _ (mask : ℕ) (ks : List Step) (j : ℕ)
+    (R : Run [] (setting mask) (lastWorld (start mask) ks) j (toldIn 1 nobody ks (outcomes (start mask) ks)) (operations mask ks) (openViews mask ks)) where
   belongs-counted : (o : Operation) → Belongs mask ks o → Counted R o
   unfolding unfinished
   belongs-counted o (ended m) = has-ended m

@@ -9,6 +9,7 @@ use mathlib.Core.List.{List, [], _∷_, List·Memᴰ·head, List·Memᴰ·tail, 
 use Prim.Native.Nat.{ℕ, _≤_}
 use native.Mathlib.Omega.{arith}
 use Rattle.views.proofs.Sets.{Inside, inside-irrefl, inside-trans}
+use Rattle.safety.proofs.Setting.{Setting}
 use Rattle.safety.proofs.Sequences.{Comparable, same, inner, outer}
 use Rattle.safety.proofs.Quorums.{Most, shared, someone, most-map}
 use Rattle.safety.proofs.Facts.{Opened}
@@ -54,37 +55,37 @@ left-later p (moved-on h i) = moved-on (shown-later p h) i
 inside-eq : {u v w : ℕ} → Inside u v → v ≡ w → Inside u w
 inside-eq {u} i e = subst (λ (x : ℕ). Inside u x) e i
 
-module _ {start : ℕ} {t : Log} (S : Sound start t) where
+module _ {C : Setting} {t : Log} (S : Sound C t) where
   -- a view in which a relay was active
   pub record Live (v : ℕ) : Type 0 where
-    pub opened : Opened (history start t) v
-    pub entered : Entered start t v
+    pub opened : Opened (history C t) v
+    pub entered : Entered C t v
 
   pub live : {v s k : ℕ} → Reached t v s k → Live v
   live r = let w = why S (r .sent) in record { opened = opened S (back (w .past)) (w .is .active); entered = active-entered S (back (w .past)) (w .is .active) }
 
-  pub comparable : {u v : ℕ} → Entered start t u → Entered start t v → Comparable u v
-  comparable = one-chain (history start t) (facts S)
+  pub comparable : {u v : ℕ} → Entered C t u → Entered C t v → Comparable u v
+  comparable = one-chain (history C t) (facts S)
 
   -- a relay in a view that includes an entered one came there by entering
-  module _ {v : ℕ} (E : Entered start t v) where
-    not-start : {x : ℕ} → Inside v x → x ≡ start → ⊥
-    not-start i e = go (start-least (history start t) (facts S) E)
+  module _ {v : ℕ} (E : Entered C t v) where
+    not-start : {x : ℕ} → Inside v x → x ≡ C .view → ⊥
+    not-start i e = go (start-least (history C t) (facts S) E)
       where
-        go : (start ≡ v) ⊎ Inside start v → ⊥
+        go : (C .view ≡ v) ⊎ Inside (C .view) v → ⊥
         go (inl d) = i .other (sym (e ∙ d))
         go (inr j) = inside-irrefl (inside-trans j (inside-eq i e))
 
-    active-came : {l : Log} {k x s : ℕ} → Past t l → Inside v x → Active start l k x → ((r y : ℕ) → Shown l k x r y → r ≤ s) → Came l k x s
+    active-came : {l : Log} {k x s : ℕ} → Past t l → Inside v x → Active C l k x → ((r y : ℕ) → Shown l k x r y → r ≤ s) → Came l k x s
     active-came p i (active-start e) h = absurd (not-start i e)
     active-came p i (active-enter m u) h = record { old = _; sequence = _; stamp = _; value = _; entry = m; low = h _ _ (by-enter m) }
 
-    pub came : {l : Log} {k x s y : ℕ} → Past t l → Inside v x → Has start l k x s y → Came l k x s
+    pub came : {l : Log} {k x s y : ℕ} → Past t l → Inside v x → Has C l k x s y → Came l k x s
     came p i (has-start e f g) = absurd (not-start i e)
     came p i (has-shown (by-enter m)) = record { old = _; sequence = _; stamp = _; value = _; entry = m; low = omega arith }
     came {l} {k} {x} {s} p i (has-shown (by-reply m)) = go (why (sound-past S p) m)
       where
-        go : {d n y : ℕ} → Why start l (reply k d n x s y) → Came l k x s
+        go : {d n y : ℕ} → Why C l (reply k d n x s y) → Came l k x s
         go w =
             let c = active-came (back (past-trans p (w .past))) i (w .is .active) (λ r y h. low r (w .is .current x r y h)) in
             record { old = c .old; sequence = c .sequence; stamp = c .stamp; value = c .value; entry = past-has (back (w .past)) (c .entry); low = c .low }
@@ -95,7 +96,7 @@ module _ {start : ℕ} {t : Log} (S : Sound start t) where
 
   module _ {v : ℕ} (L : Live v) where
     -- a view beyond v is entered from v, or from beyond v
-    from : {l : Log} {o w s y : ℕ} {q : List ℕ} → Past t l → Enter l o w q s y → Inside v w → (o ≡ v) ⊎ Inside v o
+    from : {l : Log} {o w s y : ℕ} {q : List ℕ} → Past t l → Enter C l o w q s y → Inside v w → (o ≡ v) ⊎ Inside v o
     from {o = o} {q = q} p e i = go (comparable (facts S .entered raised) (L .entered))
       where
         raised : t ∋ raise o q
@@ -104,19 +105,19 @@ module _ {start : ℕ} {t : Log} (S : Sound start t) where
         go : Comparable o v → (o ≡ v) ⊎ Inside v o
         go (same d) = inl d
         go (outer j) = inr j
-        go (inner j) = absurd (passed (history start t) (facts S) (passes-least (history start t) raised j i (e .least)) .unopened (L .opened))
+        go (inner j) = absurd (passed (history C t) (facts S) (passes-least (history C t) raised j i (e .least)) .unopened (L .opened))
 
     beyond : {o x : ℕ} → Inside v o → (x ≡ o) ⊎ Inside o x → Inside v x
     beyond i (inl e) = inside-eq i (sym e)
     beyond i (inr j) = inside-trans i j
 
     -- ---- a stamp that a quorum of v has reached
-    module _ {s : ℕ} (st : Most v (Reached t v s)) where
+    module _ {s : ℕ} (st : Most C v (Reached t v s)) where
       -- by a log of the past, all who entered a view beyond v came with that stamp
       abbrev Kept : Log → Type 0
       Kept l = (k o w : ℕ) (q : List ℕ) (r y : ℕ) → l ∋ enter k o w q r y → Inside v w → s ≤ r
 
-      has-kept : {l : Log} {k x r y : ℕ} → Past t l → Kept l → Inside v x → Has start l k x r y → s ≤ r
+      has-kept : {l : Log} {k x r y : ℕ} → Past t l → Kept l → Inside v x → Has C l k x r y → s ≤ r
       has-kept p h i a = let c = came (L .entered) p i a in omega (arith, h _ _ _ _ _ _ (c .entry) i, c .low)
 
       -- a relay hands on from v after all its answers in v
@@ -141,7 +142,7 @@ module _ {start : ℕ} {t : Log} (S : Sound start t) where
           go (inl e) = hands-kept (subst (λ (z : ℕ). Past t (state k z v w r y ∷ l)) e p) i a
           go (inr j) = has-kept (back p) h j (justified S p .has)
 
-      kept-step : {l : Log} {o w r y : ℕ} {q : List ℕ} → Past t l → Kept l → Enter l o w q r y → Inside v w → s ≤ r
+      kept-step : {l : Log} {o w r y : ℕ} {q : List ℕ} → Past t l → Kept l → Enter C l o w q r y → Inside v w → s ≤ r
       kept-step {l} {o} {w} {r} {y} p h e i = go (from p e i)
         where
           earlier-kept : {m : Log} → Past l m → Kept m
@@ -149,7 +150,7 @@ module _ {start : ℕ} {t : Log} (S : Sound start t) where
 
           go : (o ≡ v) ⊎ Inside v o → s ≤ r
           go (inl d) =
-              let (k, a, g) = shared st (subst (λ (z : ℕ). Most z (Given l z w r)) d (e .given)) in
+              let (k, a, g) = shared st (subst (λ (z : ℕ). Most C z (Given l z w r)) d (e .given)) in
               let n = why (sound-past S p) (g .sent) in
               omega (arith, g .low, state-kept (past-trans p (n .past)) (earlier-kept (back (n .past))) i a)
           go (inr j) =
@@ -166,11 +167,11 @@ module _ {start : ℕ} {t : Log} (S : Sound start t) where
     state-left : {l : Log} {k x w r y : ℕ} → Past t l → Inside v w → l ∋ state k x v w r y → Left l v k
     state-left {l} {k} {x} {w} {r} {y} p i m = go (why (sound-past S p) m)
       where
-        has-left : {n : Log} → Past l n → Inside v x → Has start n k x r y → Left l v k
+        has-left : {n : Log} → Past l n → Inside v x → Has C n k x r y → Left l v k
         has-left z j (has-start e f g) = absurd (not-start (L .entered) j e)
         has-left z j (has-shown h) = left-later z (moved-on h j)
 
-        go : Why start l (state k x v w r y) → Left l v k
+        go : Why C l (state k x v w r y) → Left l v k
         go n = pick (n .is .reached)
           where
             pick : (x ≡ v) ⊎ Inside v x → Left l v k
@@ -178,22 +179,22 @@ module _ {start : ℕ} {t : Log} (S : Sound start t) where
             pick (inr j) = has-left (back (n .past)) j (n .is .has)
 
     abbrev Closed : Log → Type 0
-    Closed l = (k o w : ℕ) (q : List ℕ) (r y : ℕ) → l ∋ enter k o w q r y → Inside v w → Most v (Left l v)
+    Closed l = (k o w : ℕ) (q : List ℕ) (r y : ℕ) → l ∋ enter k o w q r y → Inside v w → Most C v (Left l v)
 
-    closed-step : {l : Log} {o w r y : ℕ} {q : List ℕ} → Past t l → Closed l → Enter l o w q r y → Inside v w → Most v (Left l v)
+    closed-step : {l : Log} {o w r y : ℕ} {q : List ℕ} → Past t l → Closed l → Enter C l o w q r y → Inside v w → Most C v (Left l v)
     closed-step {l} {o} {w} {r} {y} p h e i = go (from p e i)
       where
-        far : {m : Log} {k x s y : ℕ} → Past l m → Inside v x → Has start m k x s y → Most v (Left l v)
+        far : {m : Log} {k x s y : ℕ} → Past l m → Inside v x → Has C m k x s y → Most C v (Left l v)
         far z j a = let c = came (L .entered) (past-trans p z) j a in h _ _ _ _ _ _ (past-has z (c .entry)) j
 
-        go : (o ≡ v) ⊎ Inside v o → Most v (Left l v)
-        go (inl d) = most-map (λ k g. state-left p i (g .sent)) (subst (λ (z : ℕ). Most z (Given l z w r)) d (e .given))
+        go : (o ≡ v) ⊎ Inside v o → Most C v (Left l v)
+        go (inl d) = most-map (λ k g. state-left p i (g .sent)) (subst (λ (z : ℕ). Most C z (Given l z w r)) d (e .given))
         go (inr j) =
             let (k, g) = someone (e .given) in
             let n = why (sound-past S p) (g .sent) in
             far (back (n .past)) (beyond j (n .is .reached)) (n .is .has)
 
-    pub closed : (l : Log) → Past t l → (k o w : ℕ) (q : List ℕ) (r y : ℕ) → l ∋ enter k o w q r y → Inside v w → Most v (Left l v)
+    pub closed : (l : Log) → Past t l → (k o w : ℕ) (q : List ℕ) (r y : ℕ) → l ∋ enter k o w q r y → Inside v w → Most C v (Left l v)
     closed [] p k o w q r y m i = absurd (List·Memᴰ·not-nil m)
     closed (e ∷ l) p k o w q r y (List·Memᴰ·tail m) i = most-map (λ j h. left-later (back now) h) (closed l (back p) k o w q r y m i)
     closed (e ∷ l) p k o w q r y (List·Memᴰ·head d) i = most-map (λ j h. left-later (back now) h) (closed-step (back p) (closed l (back p)) (because S p d) i)
@@ -230,7 +231,7 @@ module _ {start : ℕ} {t : Log} (S : Sound start t) where
       go (inl i) = absurd (inside-irrefl i)
       go (inr i) = omega (arith, i .1, r .high)
 
-  pub carried : {l : Log} {u v s : ℕ} {P : ℕ → Type 0} → Past t l → Most u (Reached l u s) → Most v (λ k. (a : Late l v k) × P (a .stamp))
+  pub carried : {l : Log} {u v s : ℕ} {P : ℕ → Type 0} → Past t l → Most C u (Reached l u s) → Most C v (λ k. (a : Late l v k) × P (a .stamp))
       → (r : ℕ) × P r × (s ≤ r)
   carried {l} {u} {v} {s} {P} p st h = go (comparable (U .entered) (W .entered))
     where
@@ -242,7 +243,7 @@ module _ {start : ℕ} {t : Log} (S : Sound start t) where
 
       go : Comparable u v → (r : ℕ) × P r × (s ≤ r)
       go (same e) =
-          let (k, r, a) = shared (subst (λ (x : ℕ). Most x (Reached l x s)) e st) h in
+          let (k, r, a) = shared (subst (λ (x : ℕ). Most C x (Reached l x s)) e st) h in
           (a .0 .stamp, a .1, again r (a .0))
       go (inner i) =
           let (k, a) = someone h in

@@ -21,6 +21,7 @@ use Rattle.rules.specs.declared.Step.{Step}
 use Rattle.rules.specs.Sending.{placeAll}
 use Rattle.rules.specs.Desks.{isIdle, full, begins, readAsked, writeAsked}
 use Rattle.rules.specs.Steps.{Act, join, leave, timer, read, write, deliver, drop, crash, bad, is, told, Outcome, roomy, deskDoes, aliveIn, ifAlive, freed, delivers, delivery, dropping, crashing, acts, stepped}
+use Rattle.safety.proofs.Setting.{Setting}
 use Rattle.safety.proofs.Lists.{All, all-none, all-set, all-at}
 use Rattle.safety.proofs.Log.{Task, reading, writing, Log, begin, Sound}
 use Rattle.safety.proofs.Growth.{stay, add, since-join, since-map}
@@ -49,16 +50,16 @@ write-silent : (d : Desk) (x : ℕ) → Silent (writeAsked d x)
 unfolding writeAsked
 write-silent d x = cases Silent (isIdle (d .phase)) (λ e. begins-silent d Write1 (d .view) (record { stamp = zeroPair .stamp; value = x })) (λ e. tt)
 
-module _ {start : ℕ} {l : Log} (a : Act) (w : World) (h : WorldTied start l w) where
-  desk-begins : (c n t : ℕ) (b : Task) → n < 4 → Begins a n b → (x : Answer Desk) → Silent x → DeskDone start (begin n t b ∷ l) n x
-      → Moves start l a (deskDoes w c n x)
+module _ {C : Setting} {l : Log} (a : Act) (w : World) (h : WorldTied C l w) where
+  desk-begins : (c n t : ℕ) (b : Task) → n < 4 → Begins a n b → (x : Answer Desk) → Silent x → DeskDone C (begin n t b ∷ l) n x
+      → Moves C l a (deskDoes w c n x)
   unfolding deskDoes
   desk-begins c n t b i f (refused z) s g = tt
   desk-begins c n t b i f (does d ss e) s g =
-      cases (Moves start l a) (roomy w (outgoing (8 + n) ss))
+      cases (Moves C l a) (roomy w (outgoing (8 + n) ss))
       (λ _. rw s (record {
         log = g .mid;
-        sound = subst (λ (k : Log). Sound start k) (last (g .ending) s) (g .sound);
+        sound = subst (λ (k : Log). Sound C k) (last (g .ending) s) (g .sound);
         tied = with-desk w h n d ss i (since-join (add {e = begin n t b} refl stay) (since-map (λ e b. b .0) (g .quiet)))
             (subst (λ (k : Log). DeskTied k n d) (last (g .ending) s) (g .tied))
             (subst (λ (k : Log). All (Rattle.safety.proofs.Ties.SendingBacked k (8 + n)) ss) (last (g .ending) s) (g .sent));
@@ -104,14 +105,14 @@ fits k =
 
 -- ---- the steps
 
-module _ {start : ℕ} {l : Log} (S : Sound start l) (w : World) (h : WorldTied start l w) where
-  freed-tied : (p : ℕ) → WorldTied start l (freed w p)
+module _ {C : Setting} {l : Log} (S : Sound C l) (w : World) (h : WorldTied C l w) where
+  freed-tied : (p : ℕ) → WorldTied C l (freed w p)
   unfolding freed
   freed-tied p = record { eight = h .eight; four = h .four; relays = h .relays; desks = h .desks; places = all-set {P = PlaceBacked l} p free tt (h .places) }
 
-  if-alive : (a : Act) (who : ℕ) (o : Outcome) → (aliveIn w who ≡ true → Moves start l a o) → Moves start l a (ifAlive w who o)
+  if-alive : (a : Act) (who : ℕ) (o : Outcome) → (aliveIn w who ≡ true → Moves C l a o) → Moves C l a (ifAlive w who o)
   unfolding ifAlive
-  if-alive a who o f = cases (Moves start l a) (aliveIn w who) f (λ e. tt)
+  if-alive a who o f = cases (Moves C l a) (aliveIn w who) f (λ e. tt)
 
   -- a desk that is alive is one of the four
   alive-desk : (who : ℕ) → 8 ≤ who → aliveIn w who ≡ true → who - 8 < 4
@@ -122,10 +123,10 @@ module _ {start : ℕ} {l : Log} (S : Sound start l) (w : World) (h : WorldTied 
       go true z e (no i) = absurd (omega (arith, ltb-true who 8 z))
       go false z e (no i) = absurd (contrary e (ap (λ (d : Desk). d .alive) (List·getD-eq-default (w .desks) noDesk {n = who - 8} (omega (arith, h .four)))))
 
-  delivers-done : (p : ℕ) (m : Message) → Backed l (m .from) (m .to) (m .body) → aliveIn w (m .to) ≡ true → Moves start l (deliver p) (delivers (freed w p) m)
+  delivers-done : (p : ℕ) (m : Message) → Backed l (m .from) (m .to) (m .body) → aliveIn w (m .to) ≡ true → Moves C l (deliver p) (delivers (freed w p) m)
   unfolding delivers freed
   delivers-done p m b e =
-      cases (Moves start l (deliver p)) (ltb (m .to) 8)
+      cases (Moves C l (deliver p)) (ltb (m .to) 8)
       (λ i.
       let s = ltb-true (m .to) 8 i in
       relay-does (deliver p) (freed w p) (freed-tied p) 1 (m .to) s (λ j ts. refl) _ (relay-hears S (relayAt w (m .to)) (h .relays (m .to) s) (m .from) (m .body) b))
@@ -137,20 +138,20 @@ module _ {start : ℕ} {l : Log} (S : Sound start l) (w : World) (h : WorldTied 
       desk-does (deliver p) (freed w p) (freed-tied p) 1 n s (λ j ts. refl) _
       (desk-hears S s (deskAt w n) (h .desks n s) (m .from) (m .body) (subst (λ (x : ℕ). Backed l (m .from) x (m .body)) z b)))
 
-  delivery-done : (p : ℕ) (x : Place) → PlaceBacked l x → Moves start l (deliver p) (delivery w p x)
+  delivery-done : (p : ℕ) (x : Place) → PlaceBacked l x → Moves C l (deliver p) (delivery w p x)
   unfolding delivery
   delivery-done p free b = tt
   delivery-done p (waiting m) b = if-alive (deliver p) (m .to) (delivers (freed w p) m) (delivers-done p m b)
 
-  dropping-done : (p : ℕ) (x : Place) → Moves start l (drop p) (dropping w p x)
+  dropping-done : (p : ℕ) (x : Place) → Moves C l (drop p) (dropping w p x)
   unfolding dropping
   dropping-done p free = tt
   dropping-done p (waiting m) = record { log = l; sound = S; tied = freed-tied p; deed = quiet stay (λ j ts. refl) (λ j ts. refl) refl }
 
-  crashing-done : (who : ℕ) → who < 12 → Moves start l (crash who) (crashing w who)
+  crashing-done : (who : ℕ) → who < 12 → Moves C l (crash who) (crashing w who)
   unfolding crashing placeAll outgoing
   crashing-done who i =
-      cases (Moves start l (crash who)) (ltb who 8)
+      cases (Moves C l (crash who)) (ltb who 8)
       (λ e. record {
         log = l;
         sound = S;
@@ -166,7 +167,7 @@ module _ {start : ℕ} {l : Log} (S : Sound start l) (w : World) (h : WorldTied 
         deed = quiet stay (λ j ts. refl) (λ j ts. refl) refl;
       })
 
-  acts-done : (a : Act) → Fits a → Moves start l a (acts w a)
+  acts-done : (a : Act) → Fits a → Moves C l a (acts w a)
   unfolding acts
   acts-done (join s) i = if-alive (join s) s _ (λ e. relay-does (join s) w h 0 s i (λ j ts. refl) _ (join-done S (relayAt w s) i (h .relays s i)))
   acts-done (leave s) i = if-alive (leave s) s _ (λ e. relay-does (leave s) w h 0 s i (λ j ts. refl) _ (leave-done S (relayAt w s) i (h .relays s i)))
@@ -181,6 +182,6 @@ module _ {start : ℕ} {l : Log} (S : Sound start l) (w : World) (h : WorldTied 
   acts-done (crash who) i = if-alive (crash who) who (crashing w who) (λ e. crashing-done who i)
   acts-done bad i = tt
 
-  pub step-done : (k : Step) → Moves start l (told k) (stepped w k)
+  pub step-done : (k : Step) → Moves C l (told k) (stepped w k)
   unfolding stepped
   step-done k = acts-done (told k) (fits k)

@@ -15,6 +15,7 @@ use Rattle.rules.specs.declared.Desk.{Desk}
 use Rattle.rules.specs.declared.Phase.{Phase}
 use Rattle.rules.specs.declared.Phase.the-variants.{Idle, Read1, Read2, Write1, Write2}
 use Rattle.rules.specs.Generators.{generatorFor}
+use Rattle.safety.proofs.Setting.{Setting}
 use Rattle.safety.proofs.Lists.{All}
 use Rattle.safety.proofs.Bridge.{Kept}
 use Rattle.safety.proofs.Numbers.{num, Small}
@@ -51,8 +52,8 @@ pub record TransferTied (l : Log) (t : Transfer) : Type 0 where
 abbrev pub GeneratorsTied : Log → ℕ → List Generator → Type 0
 GeneratorsTied l k gs = (v : ℕ) → GeneratorTied l k v (generatorFor v gs)
 
-pub record RelayTied (start : ℕ) (l : Log) (k : ℕ) (r : Relay) : Type 0 where
-  pub facts : RelayFacts start l k (r .view) (num (r .holds .stamp)) (r .holds .value) (r .entered) (r .active)
+pub record RelayTied (C : Setting) (l : Log) (k : ℕ) (r : Relay) : Type 0 where
+  pub facts : RelayFacts C l k (r .view) (num (r .holds .stamp)) (r .holds .value) (r .entered) (r .active)
   pub outside : r .entered ≡ false → r .view ≡ 0
   pub inside : r .active ≡ true → r .entered ≡ true
   pub small : Small (r .holds)
@@ -114,9 +115,9 @@ PlaceBacked l (waiting m) = Backed l (m .from) (m .to) (m .body)
 
 -- ---- the world
 
-pub record WorldTied (start : ℕ) (l : Log) (w : World) : Type 0 where
+pub record WorldTied (C : Setting) (l : Log) (w : World) : Type 0 where
   pub eight : length (w .relays) ≡ 8
   pub four : length (w .desks) ≡ 4
-  pub relays : (s : ℕ) → s < 8 → RelayTied start l s (relayAt w s)
+  pub relays : (s : ℕ) → s < 8 → RelayTied C l s (relayAt w s)
   pub desks : (n : ℕ) → n < 4 → DeskTied l n (deskAt w n)
   pub places : All (PlaceBacked l) (w .places)

@@ -20,6 +20,7 @@ use Rattle.rules.specs.Sets.{none, same}
 use Rattle.rules.specs.Messages.{proposal, converged, install, toMembers, toBoth}
 use Rattle.rules.specs.State.{Generator}
 use Rattle.rules.specs.Generators.{Turn, withOwn, proposes, oneIf, agreeing, agree, hears, settles, proposalHeard, notesConverged, raises, convergedHeard}
+use Rattle.safety.proofs.Setting.{Setting}
 use Rattle.safety.proofs.Lists.{All, all-none, all-append}
 use Rattle.safety.proofs.Sequences.{_⊆_}
 use Rattle.safety.proofs.Bridge.{has-in, in-has, nil-lacks, Kept, kept-full, full-none, none-nil, full-kept, kept-sequence, kept-above, heard-kept, heard-merge}
@@ -30,10 +31,10 @@ use Rattle.safety.proofs.GeneratorFacts.{generator-own, conv-justified,
 use Rattle.safety.proofs.Ties.{GeneratorTied, SendingBacked}
 use Rattle.safety.proofs.Grown.{generator-more, sendings-since, sent-alike}
 
-pub record TurnDone (start : ℕ) (l : Log) (k v : ℕ) (t : Turn) : Type 0 where
+pub record TurnDone (C : Setting) (l : Log) (k v : ℕ) (t : Turn) : Type 0 where
   pub log : Log
   pub since : Since (Turning k v) l log
-  pub sound : Sound start log
+  pub sound : Sound C log
   pub tied : GeneratorTied log k v (t .next)
   pub sent : All (SendingBacked log k) (t .sendings)
 
@@ -56,11 +57,11 @@ agreeing-bit (n ∷ ns) q (suc k) e =
     half true = omega arith
     half false = omega arith
 
-module _ {start : ℕ} {l : Log} {k v : ℕ} (S : Sound start l) where
+module _ {C : Setting} {l : Log} {k v : ℕ} (S : Sound C l) where
   -- "Propose q for v: if v's generator has an empty own sequence, it becomes q and goes as proposal to all members of v, oneself too; else nothing."
-  pub proposes-done : {q : List ℕ} (g : Generator) → GeneratorTied l k v g → First start l k v q → Kept v q → TurnDone start l k v (proposes g q)
+  pub proposes-done : {q : List ℕ} (g : Generator) → GeneratorTied l k v g → First C l k v q → Kept v q → TurnDone C l k v (proposes g q)
   unfolding proposes withOwn
-  proposes-done {q} g G j h = cases (TurnDone start l k v) (none (g .own)) (λ e. go (none-nil (g .own) e)) (λ e. record {
+  proposes-done {q} g G j h = cases (TurnDone C l k v) (none (g .own)) (λ e. go (none-nil (g .own) e)) (λ e. record {
     log = l;
     since = stay;
     sound = S;
@@ -68,7 +69,7 @@ module _ {start : ℕ} {l : Log} {k v : ℕ} (S : Sound start l) where
     sent = all-none;
   })
     where
-      go : g .own ≡ [] → TurnDone start l k v (record { next = withOwn g q; sendings = toMembers (g .view) (proposal (g .view) q) ∷ [] })
+      go : g .own ≡ [] → TurnDone C l k v (record { next = withOwn g q; sendings = toMembers (g .view) (proposal (g .view) q) ∷ [] })
       go e =
           let G1 = generator-more {e = first k v q} (λ p c. omega (arith, ap tag c)) G in
           let G2 = generator-more {e = own k v q} (λ p c. omega (arith, ap tag c)) G1 in
@@ -88,11 +89,11 @@ module _ {start : ℕ} {l : Log} {k v : ℕ} (S : Sound start l) where
           }
 
   -- "Proposal(v, q): note it for the sender. If q has a view that own lacks: ..  Send the new own to all members."
-  hears-done : {q : List ℕ} (from : ℕ) (g : Generator) → GeneratorTied l k v g → l ∋ own from v q → Kept v q → TurnDone start l k v (hears g from q)
+  hears-done : {q : List ℕ} (from : ℕ) (g : Generator) → GeneratorTied l k v g → l ∋ own from v q → Kept v q → TurnDone C l k v (hears g from q)
   unfolding hears heardOf
   hears-done {q} from g G m h = ⊎-elim more less (decided (lacksOf q (g .own)))
     where
-      more : lacksOf q (g .own) ≡ true → TurnDone start l k v (hears g from q)
+      more : lacksOf q (g .own) ≡ true → TurnDone C l k v (hears g from q)
       more e =
           let p : List ℕ = heardOf (g .own) (g .converged) q in
           let K : Kept v p = heard-kept (g .own) (g .converged) q (G .own-rises) (G .conv-rises) (h .rising) (G .contained) e in
@@ -114,7 +115,7 @@ module _ {start : ℕ} {l : Log} {k v : ℕ} (S : Sound start l) where
                 (sent-alike (own k v p ∷ l) k (toMembers (g .view) (proposal (g .view) p)) (λ n. rw (G .view-is) (List·Memᴰ·head refl, K)));
           }
 
-      less : lacksOf q (g .own) ≡ false → TurnDone start l k v (hears g from q)
+      less : lacksOf q (g .own) ≡ false → TurnDone C l k v (hears g from q)
       less e = record {
         log = l;
         since = stay;
@@ -131,10 +132,10 @@ module _ {start : ℕ} {l : Log} {k v : ℕ} (S : Sound start l) where
       }
 
   -- "Then, if own differs from converged and a quorum of v's last noted proposals equal own, converged becomes own and goes out to all members."
-  settles-done : (g : Generator) → GeneratorTied l k v g → TurnDone start l k v (settles g)
+  settles-done : (g : Generator) → GeneratorTied l k v g → TurnDone C l k v (settles g)
   unfolding settles
   settles-done g G =
-      cases (TurnDone start l k v) (not (same (g .own) (g .converged)) && agree (g .view) (g .proposals) (g .own))
+      cases (TurnDone C l k v) (not (same (g .own) (g .converged)) && agree (g .view) (g .proposals) (g .own))
       (λ e. go (not-true _ (and-eq-true-iff _ _ .0 e .0))) (λ e. record { log = l; since = stay; sound = S; tied = G; sent = all-none })
     where
       -- an empty own sequence would contain no other converged one
@@ -148,7 +149,7 @@ module _ {start : ℕ} {l : Log} {k v : ℕ} (S : Sound start l) where
       grows : g .converged ⊆ g .own
       grows w i = has-in (g .own) w (lacks-fact (g .converged) (g .own) (G .contained) w (in-has i))
 
-      go : same (g .own) (g .converged) ≡ false → TurnDone start l k v (record {
+      go : same (g .own) (g .converged) ≡ false → TurnDone C l k v (record {
         next = record { view = g .view; own = g .own; converged = g .own; raised = g .raised; proposals = g .proposals; convergences = g .convergences };
         sendings = toMembers (g .view) (converged (g .view) (g .own)) ∷ [];
       })
@@ -191,15 +192,15 @@ module _ {start : ℕ} {l : Log} {k v : ℕ} (S : Sound start l) where
 
   -- "If a quorum's last notes equal q and q is not the last raised, raise it: install(v, least(q), q) goes to all who are members of v or of least(q)."
   pub converged-done : {q : List ℕ} (from : ℕ) (g : Generator) → GeneratorTied l k v g → l ∋ conv from v q → Kept v q
-      → TurnDone start l k v (convergedHeard g from q)
+      → TurnDone C l k v (convergedHeard g from q)
   unfolding convergedHeard raises
   converged-done {q} from g G m h =
       let H = notes-tied from g G m in
-      cases (TurnDone start l k v) (agree (g .view) (notesConverged g from q .convergences) q && not (same q (g .raised)))
+      cases (TurnDone C l k v) (agree (g .view) (notesConverged g from q .convergences) q && not (same q (g .raised)))
       (λ e. go H (and-eq-true-iff _ _ .0 e .0)) (λ e. record { log = l; since = stay; sound = S; tied = H; sent = all-none })
     where
       go : GeneratorTied l k v (notesConverged g from q) → reachesOf (g .view) (agreeing (notesConverged g from q .convergences) q) ≡ true
-          → TurnDone start l k v (record {
+          → TurnDone C l k v (record {
             next = raises (notesConverged g from q) q;
             sendings = toBoth (g .view) (leastOf q) (install (g .view) (leastOf q) q) ∷ [];
           })
@@ -218,7 +219,7 @@ module _ {start : ℕ} {l : Log} {k v : ℕ} (S : Sound start l) where
         sent = sent-alike (raise v q ∷ l) k (toBoth (g .view) (leastOf q) (install (g .view) (leastOf q) q)) (λ n. rw (G .view-is) (record { raised = List·Memᴰ·head refl; kept = h; least = refl }));
       }
         where
-          votes : Raise l v q
+          votes : Raise C l v q
           votes = record {
             voters = agreeing (notesConverged g from q .convergences) q;
             quorum = subst (λ (x : ℕ). reachesOf x (agreeing (notesConverged g from q .convergences) q) ≡ true) (G .view-is) e;
@@ -229,9 +230,9 @@ module _ {start : ℕ} {l : Log} {k v : ℕ} (S : Sound start l) where
           H1 : GeneratorTied (raise v q ∷ l) k v (notesConverged g from q)
           H1 = generator-more (λ p c. omega (arith, ap tag c)) H
 
-module _ {start : ℕ} {l : Log} {k v : ℕ} (S : Sound start l) where
+module _ {C : Setting} {l : Log} {k v : ℕ} (S : Sound C l) where
   pub proposal-done : {q : List ℕ} (from : ℕ) (g : Generator) → GeneratorTied l k v g → l ∋ own from v q → Kept v q
-      → TurnDone start l k v (proposalHeard g from q)
+      → TurnDone C l k v (proposalHeard g from q)
   unfolding proposalHeard
   proposal-done {q} from g G m h =
       let one = hears-done S from g G m h in

@@ -11,6 +11,7 @@ use Rattle.rules.specs.declared.Desk.{Desk}
 use Rattle.rules.specs.declared.Phase.{Phase}
 use Rattle.rules.specs.History.{Operation, Told, toldAt, operation, unfinishedBy, unfinishedIn}
 use Rattle.rules.specs.Demand3.{_∈_}
+use Rattle.safety.proofs.Setting.{Setting}
 use Rattle.safety.proofs.Numbers.{pairOf, pair-back}
 use Rattle.safety.proofs.Log.{Task, reading, writing, Op, Log, _∋_, settle, finish}
 use Rattle.safety.proofs.Past.{back, past-has, why}
@@ -50,7 +51,7 @@ to-desk ts n (d ∷ ds) {p} (suc j) i m =
     Memᴰ·append-right (unfinishedBy ts n (d .phase) (d .holds))
     (to-desk ts (suc n) ds j (omega arith) (subst (λ (x : ℕ). p ∈ unfinishedBy ts x (getD ds j noDesk .phase) (getD ds j noDesk .holds)) e m))
 
-module _ {old : Log} {first i : ℕ} {w : World} {ts : List Told} {ops : List Operation} {vs : List ℕ} (R : Run old first w i ts ops vs) where
+module _ {old : Log} {C : Setting} {i : ℕ} {w : World} {ts : List Told} {ops : List Operation} {vs : List ℕ} (R : Run old C w i ts ops vs) where
   abbrev pub named : Op → Operation
   named = told (R .book .begins) (R .book .ends)
 
