@@ -8,7 +8,7 @@ use mathlib.Core.Bool.{Bool, true, false}
 use mathlib.Core.List.{List, [], _∷_, List·Memᴰ}
 use Prim.Native.Nat.{ℕ, _<_}
 use Rattle.rules.specs.Sets.{within}
-use Rattle.rules.specs.Stamps.{Stamp, Pair, zeroPair, greater}
+use Rattle.rules.specs.Stamps.{Stamp, Value, Pair, zeroPair, greater}
 use Rattle.rules.specs.Steps.{Step}
 use Rattle.rules.specs.History.{Task, reading, writing, Operation, operations, unfinished, openViews}
 
@@ -49,7 +49,7 @@ pub record Next (o : Operation) (r : List Operation) : Type 0 where
   pub timely : (p : Operation) → p ∈ r → Before o p → ⊥
   pub returns : isRead (o .task) ≡ true → latest r ≡ o .pair
   -- a write ends with the value that it was told
-  pub wrote : (x : ℕ) → o .task ≡ writing x → o .pair .value ≡ x
+  pub wrote : (x : Value) → o .task ≡ writing x → o .pair .value ≡ x
   pub rises : (p : Operation) → p ∈ r → greater (p .pair .stamp) (o .pair .stamp) ≡ false
 
 -- an order, newest first

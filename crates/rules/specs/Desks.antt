@@ -4,7 +4,7 @@ use mathlib.Core.List.{[], _∷_}
 use Prim.Native.Nat.{ℕ, _+_}
 use lib.Dec.{eqb, leb}
 use Rattle.rules.specs.Sets.{if_then_else_, _&&_, only, joined, member, inside, reaches}
-use Rattle.rules.specs.Stamps.{Pair, zeroPair, sameStamp, greatest}
+use Rattle.rules.specs.Stamps.{Value, Pair, zeroPair, sameStamp, greatest}
 use Rattle.rules.specs.Messages.{Body, request, view, proposal, converged, install, state, get, put, viewReply, pairReply, ack, toMembers, readDone, writeDone, not-now, worn, Answer, refused, does, quietly, sends}
 use Rattle.rules.specs.State.{Phase, Idle, Read1, Read2, Write1, Write2, Desk}
 
@@ -62,7 +62,7 @@ ended d = cleared d Idle (d .view) zeroPair (d .tries)
 unfoldable pub readAsked : Desk → Answer Desk
 readAsked d = if isIdle (d .phase) then begins d Read1 (d .view) zeroPair else refused not-now
 
-unfoldable pub writeAsked : Desk → ℕ → Answer Desk
+unfoldable pub writeAsked : Desk → Value → Answer Desk
 writeAsked d x = if isIdle (d .phase) then begins d Write1 (d .view) (record { stamp = zeroPair .stamp; value = x }) else refused not-now
 
 -- ---- "A reply with another try, of the other phase's kind, from no member of the desk's view, or to an idle desk does nothing."

@@ -2,7 +2,7 @@
 use mathlib.Core.List.{List, [], _∷_, _++_}
 use Prim.Native.Nat.{ℕ, suc}
 use lib.ListN.{getD, set, replicate}
-use Rattle.rules.specs.Stamps.{Pair}
+use Rattle.rules.specs.Stamps.{Value, Pair}
 use Rattle.rules.specs.Messages.{Event, nothing, opened, readDone, writeDone}
 use Rattle.rules.specs.State.{Phase, Idle, Read1, Read2, Write1, Write2, Desk, start}
 use Rattle.rules.specs.Steps.{Step, Act, join, leave, timer, read, write, deliver, drop, crash, bad, told, Outcome, refusal, done, report}
@@ -11,7 +11,7 @@ use Rattle.rules.specs.Runs.{outcomes, lastWorld}
 -- what a desk was told
 pub data Task : Type 0 where
   reading : Task
-  writing : ℕ → Task
+  writing : Value → Task
 
 -- an operation: its desk, what it was told, the number of the step with which it began, the number of the step with which it ended (0: it has not)
 -- and of the event that this step told (2 or 3; 0: it has not ended), and its stamp and value: what a read returned, what a write wrote

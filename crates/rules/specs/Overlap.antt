@@ -3,36 +3,36 @@
 use mathlib.Core.Path.{_≡_, refl}
 use mathlib.Core.List.{List, [], _∷_}
 use Prim.Native.Nat.{ℕ}
-use Rattle.rules.specs.Stamps.{Pair}
+use Rattle.rules.specs.Stamps.{Value, noValue, Pair}
 use Rattle.rules.specs.Steps.{Step}
 use Rattle.rules.specs.History.{reading, writing, Operation, endedIn, toldIn, operations, unfinishedIn, unfinished, openedIn, openViews}
 use Rattle.rules.specs.Examples.{recorded}
 
 -- a sheet's steps, in its words
-abbrev step : ℕ → ℕ → ℕ → Step
+abbrev step : ℕ → ℕ → Value → Step
 step k i x = record { kind = k; id = i; value = x }
 
 abbrev pub JOIN : ℕ → Step
-JOIN s = step 1 s 0
+JOIN s = step 1 s noValue
 
 abbrev pub TIMER : ℕ → Step
-TIMER s = step 3 s 0
+TIMER s = step 3 s noValue
 
 abbrev pub READ : ℕ → Step
-READ n = step 4 n 0
+READ n = step 4 n noValue
 
-abbrev pub WRITE : ℕ → ℕ → Step
+abbrev pub WRITE : ℕ → Value → Step
 WRITE n x = step 5 n x
 
 abbrev pub DELIVER : ℕ → Step
-DELIVER p = step 6 p 0
+DELIVER p = step 6 p noValue
 
 abbrev pub DROP : ℕ → Step
-DROP p = step 7 p 0
+DROP p = step 7 p noValue
 
 -- 8 to 11 are the desks
 abbrev pub CRASH : ℕ → Step
-CRASH who = step 8 who 0
+CRASH who = step 8 who noValue
 
 abbrev pub steps : List Step
 steps =
@@ -41,7 +41,7 @@ steps =
     ∷ DELIVER 2 ∷ DELIVER 0 ∷ DELIVER 0 ∷ DELIVER 1 ∷ DELIVER 0 ∷ DELIVER 1 ∷ DELIVER 0 ∷ DELIVER 1 ∷ DELIVER 0 ∷ DELIVER 1
     ∷ DELIVER 3 ∷ DELIVER 0 ∷ DELIVER 0 ∷ DELIVER 1 ∷ DELIVER 0 ∷ DELIVER 1 ∷ DELIVER 0 ∷ DELIVER 1 ∷ DELIVER 0 ∷ DELIVER 1 ∷ []
 
-abbrev pair : ℕ → ℕ → ℕ → Pair
+abbrev pair : ℕ → ℕ → Value → Pair
 pair count desk x = record { stamp = record { count = count; desk = desk }; value = x }
 
 -- the write that the crash of its desk left, the read that returned it, and the write that began before this read ended

@@ -6,6 +6,7 @@ use Prim.Native.Nat.{ℕ, _+_, _-_}
 use lib.Dec.{eqb, leb, ltb}
 use lib.ListN.{length, set}
 use Rattle.rules.specs.Sets.{if_then_else_, _&&_}
+use Rattle.rules.specs.Stamps.{Value, isValue, isNoValue}
 use Rattle.rules.specs.Messages.{Message, outgoing, Event, nothing, opened, readDone, writeDone, Refusal, bad-step, empty, dead, no-room, Answer, refused, does}
 use Rattle.rules.specs.State.{Relay, Desk, Place, free, waiting, World, crashedRelay, crashedDesk, relayAt, deskAt, placeAt, withRelay, withDesk, withPlaces}
 use Rattle.rules.specs.Sending.{placeAll, freeIn}
@@ -19,7 +20,7 @@ pub data Act : Type 0 where
   leave : (s : ℕ) → Act
   timer : (s : ℕ) → Act
   read : (n : ℕ) → Act
-  write : (n x : ℕ) → Act
+  write : (n : ℕ) (x : Value) → Act
   deliver : (p : ℕ) → Act
   drop : (p : ℕ) → Act
   crash : (who : ℕ) → Act
@@ -28,7 +29,7 @@ pub data Act : Type 0 where
 -- "1 JOIN relay, 2 LEAVE relay, 3 TIMER relay, 4 READ desk, 5 WRITE desk value, 6 DELIVER place, 7 DROP place, 8 CRASH who (0..7 relays, 8..11 desks).
 -- A value other than 0 belongs to WRITE only." BAD STEP: "kind, id or value out of range"
 abbrev pub is : Step → ℕ → ℕ → Bool
-is k kind ids = eqb (k .kind) kind && (ltb (k .id) ids && eqb (k .value) 0)
+is k kind ids = eqb (k .kind) kind && (ltb (k .id) ids && isNoValue (k .value))
 
 unfoldable pub told : Step → Act
 told k =
@@ -36,7 +37,7 @@ told k =
     else if is k 2 8 then leave (k .id)
     else if is k 3 8 then timer (k .id)
     else if is k 4 4 then read (k .id)
-    else if eqb (k .kind) 5 && (ltb (k .id) 4 && ltb (k .value) 4294967296) then write (k .id) (k .value)
+    else if eqb (k .kind) 5 && (ltb (k .id) 4 && isValue (k .value)) then write (k .id) (k .value)
     else if is k 6 256 then deliver (k .id)
     else if is k 7 256 then drop (k .id)
     else if is k 8 12 then crash (k .id)

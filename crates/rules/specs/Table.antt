@@ -6,6 +6,7 @@ use Prim.Native.Nat.{ℕ, _+_, _-_}
 use lib.Dec.{eqb, leb, ltb}
 use lib.ListN.{length, getD}
 use Rattle.rules.specs.Sets.{_&&_, _||_, if_then_else_, within, member, reaches, inside, joins, none, all}
+use Rattle.rules.specs.Stamps.{isValue, isNoValue}
 use Rattle.rules.specs.Messages.{Body, request, view, proposal, converged, install, state, get, put, viewReply, pairReply, ack, Message, outgoing, bad-step, empty, dead, not-now, not-yet, worn, no-room, number, Answer, refused, does}
 use Rattle.rules.specs.State.{Desk, Phase, Idle, Read1, Read2, Write1, Write2, Transfer, Relay, Place, free, waiting, World, relayAt, deskAt, placeAt}
 use Rattle.rules.specs.Sending.{freeIn}
@@ -25,7 +26,7 @@ idsOf kind = getD (0 ∷ 8 ∷ 8 ∷ 8 ∷ 4 ∷ 4 ∷ 256 ∷ 256 ∷ 12 ∷ []
 
 -- "kind, id or value out of range"; "A value other than 0 belongs to WRITE only."
 abbrev pub outOfRange : Step → Bool
-outOfRange k = not (ltb (k .id) (idsOf (k .kind)) && (if eqb (k .kind) 5 then ltb (k .value) 4294967296 else eqb (k .value) 0))
+outOfRange k = not (ltb (k .id) (idsOf (k .kind)) && (if eqb (k .kind) 5 then isValue (k .value) else isNoValue (k .value)))
 
 -- "DELIVER or DROP of a free place"
 abbrev pub isFree : Place → Bool

@@ -6,7 +6,7 @@ use Prim.Native.Nat.{ℕ, suc}
 use lib.Dec.{eqb, leb, ltb}
 use lib.ListN.{length}
 use Rattle.rules.specs.Sets.{_&&_, _||_, joins, leaves, member, members, within, inside, above, lacks, least, none, all, allHold}
-use Rattle.rules.specs.Stamps.{Stamp, Pair}
+use Rattle.rules.specs.Stamps.{Stamp, Pair, isValue, isNoValue}
 use Rattle.rules.specs.Messages.{Body, request, view, proposal, converged, install, state, get, put, viewReply, pairReply, ack, Message}
 use Rattle.rules.specs.State.{Generator, Transfer, Relay, Phase, Idle, Read1, Read2, Write1, Write2, Desk, Place, free, waiting, World}
 use Rattle.rules.specs.Relays.{isFor}
@@ -20,10 +20,10 @@ abbrev pub isStamp : Stamp → Bool
 isStamp s = ltb (s .count) 65536 && ltb (s .desk) 4
 
 unfoldable pub isPair : Pair → Bool
-isPair p = isStamp (p .stamp) && ltb (p .value) 4294967296
+isPair p = isStamp (p .stamp) && isValue (p .value)
 
 abbrev pub isZeroPair : Pair → Bool
-isZeroPair p = (eqb (p .stamp .count) 0 && eqb (p .stamp .desk) 0) && eqb (p .value) 0
+isZeroPair p = (eqb (p .stamp .count) 0 && eqb (p .stamp .desk) 0) && isNoValue (p .value)
 
 abbrev pub implies : Bool → Bool → Bool
 implies a b = not a || b

@@ -5,6 +5,7 @@ use mathlib.Core.Path.{_≡_, subst}
 use mathlib.Core.Logic.{_⊎_, inl, inr}
 use mathlib.Core.List.{List, [], _∷_, List·Memᴰ·head, List·Memᴰ·tail, List·Memᴰ·not-nil}
 use Prim.Native.Nat.{ℕ}
+use Rattle.rules.specs.Stamps.{Value}
 use Rattle.safety.proofs.Setting.{Setting}
 use Rattle.safety.proofs.Sequences.{_∈_, _⊆_, Sequence, Nested, Chain}
 use Rattle.safety.proofs.Votes.{Gathered, given, both, gathered-chain, gathered-nested}
@@ -15,7 +16,7 @@ use Rattle.safety.proofs.Past.{Past, now, back, past-has, places, Place
 
 pub data Entered (C : Setting) (t : Log) (w : ℕ) : Type 0 where
   from-start : w ≡ C .view → Entered C t w
-  by-relay : {k o s y : ℕ} {q : List ℕ} → t ∋ enter k o w q s y → Entered C t w
+  by-relay : {k o s : ℕ} {y : Value} {q : List ℕ} → t ∋ enter k o w q s y → Entered C t w
 
 -- the history that a log tells
 abbrev pub history : Setting → Log → History

@@ -7,7 +7,7 @@ use Prim.Native.Nat.{ℕ, _≤_, _<_}
 use native.Mathlib.Omega.{arith}
 use Rattle.views.specs.View.{withinOf}
 use Rattle.views.proofs.Sets.{within-test, within-refl}
-use Rattle.rules.specs.Stamps.{Stamp, greater}
+use Rattle.rules.specs.Stamps.{Stamp, Value, greater}
 use Rattle.rules.specs.State.{World}
 use Rattle.rules.specs.History.{Operation, Told, unfinishedIn}
 use Rattle.rules.specs.Demand3.{_∈_, isRead, eventOf, written, latest, Next, Ordered, first, next}
@@ -128,7 +128,7 @@ module _ {old : Log} {C : Setting} {i : ℕ} {w : World} {ts : List Told} {ops :
   next-named {o} {r} s all N low = record {
     once = λ m. let k = Memᴰ·of-map name r m in N .once (Memᴰ·cast (name-once s (all (k .0) (k .1)) refl (k .2) refl refl) (k .1));
     timely = λ p m b. let k = Memᴰ·of-map name r m in timely (k .0) (k .1) (b .0) (subst (λ (x : Operation). R .book .ends (o .desk) (o .try) < x .begun) (sym (k .2)) (b .1));
-    returns = λ e. latest-named r ∙ ap (λ (x : ℕ × ℕ). pairOf (x .0) (x .1)) (N .returns (read-task (o .task) e));
+    returns = λ e. latest-named r ∙ ap (λ (x : ℕ × Value). pairOf (x .0) (x .1)) (N .returns (read-task (o .task) e));
     wrote = λ x e. write-value (R .sound) s e;
     rises = λ p m. let k = Memᴰ·of-map name r m in
         subst (λ (x : Operation). greater (x .pair .stamp) (stampOf (o .stamp)) ≡ false) (k .2) (stamps-rise (k .0 .stamp) (o .stamp) (low (k .0) (k .1)));

@@ -17,7 +17,7 @@ use Rattle.views.proofs.Sets.{within-refl, within-trans, within-or-right, withi
 use Rattle.views.proofs.Among.{some-plus, lacks-fact, lacks-union-left}
 use Rattle.views.proofs.Nested.{above-fact, most-within}
 use Rattle.rules.specs.Sets.{_&&_, member, within, above, has, lacks, same}
-use Rattle.rules.specs.Stamps.{Pair}
+use Rattle.rules.specs.Stamps.{Value, Pair}
 use Rattle.rules.specs.Messages.{Body, Message, state as stateSays, proposal, viewReply, pairReply, ack, Sending, toMembers, quietly}
 use Rattle.rules.specs.State.{Place, free, waiting, placeAt, Generator, Relay, World, start, relayAt}
 use Rattle.rules.specs.declared.Desk.{Desk}
@@ -46,7 +46,7 @@ relayAfter mask ks s = relayAt (lastWorld (start mask) ks) s
 
 -- a view that a relay has, having entered, is an entered one
 module _ {C : Setting} {l : Log} (S : Sound C l) where
-  has-entered : {k v s y : ℕ} → Has C l k v s y → Entered C l v
+  has-entered : {k v s : ℕ} {y : Value} → Has C l k v s y → Entered C l v
   has-entered (has-start e a b) = from-start e
   has-entered (has-shown (by-enter m)) = by-relay m
   has-entered (has-shown (by-reply m)) = let x = why S m in active-entered S (back (x .past)) (x .is .active)
@@ -65,7 +65,7 @@ hands-on-entered mask h ks s o w x i e m =
 
 -- So in every world of a run, whoever has a state message on its way has entered.
 
-entered-view : {C : Setting} {l : Log} {k v s y : ℕ} → 0 < C .view → Sound C l → Has C l k v s y → v ≡ 0 → ⊥
+entered-view : {C : Setting} {l : Log} {k v s : ℕ} {y : Value} → 0 < C .view → Sound C l → Has C l k v s y → v ≡ 0 → ⊥
 entered-view {C} {l} {v = v} a S h z = go (start-least (history C l) (facts S) (has-entered S h))
   where
     go : (C .view ≡ v) ⊎ Inside (C .view) v → ⊥

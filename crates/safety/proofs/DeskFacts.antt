@@ -4,6 +4,7 @@ use mathlib.Core.Logic.{_⊎_, inl, inr}
 use mathlib.Core.List.{[], _∷_, List·Memᴰ·head, List·Memᴰ·tail, List·Memᴰ·not-nil, List·Memᴰ·cases-cons}
 use Prim.Native.Nat.{ℕ, suc, _≤_, _<_}
 use native.Mathlib.Omega.{arith}
+use Rattle.rules.specs.Stamps.{Value}
 use Rattle.safety.proofs.Setting.{Setting}
 use Rattle.safety.proofs.Quorums.{Most}
 use Rattle.safety.proofs.Log.{Task, Op, Ask, get, put, Entry, tag, Log, _∋_, begin, ask, reply, settle, finish, Begin, sends-get, sends-put, Asks, Result, Settle, Ends, put-down, Finish, Sound}
@@ -170,7 +171,7 @@ module _ {l : Log} {d n u m : ℕ} {a : Task} (k : DeskFacts l d n u (asking m a
   }
 
   -- it settles
-  module _ (s y : ℕ) where
+  module _ (s : ℕ) (y : Value) where
     abbrev op : Op
     op = record { desk = d; try = m; task = a; stamp = s; value = y }
 
@@ -242,13 +243,13 @@ module _ {l : Log} {d n u : ℕ} {o : Op} (k : DeskFacts l d n u (putting o)) wh
         (λ h. now-puts .open-still (past-kind (omega arith) h));
   }
 
-  pub finish-justified : {C : Setting} → Most C u (λ j. (r : ℕ) × (z : ℕ) × (l ∋ reply j d n u r z)) → Finish C l o
+  pub finish-justified : {C : Setting} → Most C u (λ j. (r : ℕ) × (z : Value) × (l ∋ reply j d n u r z)) → Finish C l o
   finish-justified {C} h = record { settled = now-puts .settle-is; once = now-puts .open-still; ends = ends (now-puts .mine) }
     where
       ends : o .desk ≡ d → Ends C l o
       ends e = put-down
           (subst (λ (x : ℕ). l ∋ ask x n (o .try) u (put (o .stamp) (o .value))) (sym e) (now-puts .ask-is))
-          (subst (λ (x : ℕ). Most C u (λ j. (r : ℕ) × (z : ℕ) × (l ∋ reply j x n u r z))) (sym e) h)
+          (subst (λ (x : ℕ). Most C u (λ j. (r : ℕ) × (z : Value) × (l ∋ reply j x n u r z))) (sym e) h)
 
   pub desk-rests : DeskFacts (finish o ∷ l) d n u resting
   desk-rests = record { tries = tries-finish (k .tries); done = λ b c h. inr (done (k .done b c (past-kind (omega arith) h))); doing = rests }

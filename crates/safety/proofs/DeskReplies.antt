@@ -13,7 +13,7 @@ use Rattle.views.specs.View.{bitOf, reachesOf}
 use Rattle.views.proofs.Truth.{contrary, cases, either-true, true-right}
 use Rattle.views.proofs.Digits.{bit-none, bit-or, bit-one}
 use Rattle.rules.specs.Sets.{member, reaches}
-use Rattle.rules.specs.Stamps.{Pair, sameStamp}
+use Rattle.rules.specs.Stamps.{Value, Pair, sameStamp}
 use Rattle.rules.specs.Messages.{Body, request, view, proposal, converged, install, state as stateSays, get as getSays, put as putSays, viewReply, pairReply, ack, Event}
 use Rattle.rules.specs.declared.Desk.{Desk}
 use Rattle.rules.specs.declared.Phase.{Phase}
@@ -74,7 +74,7 @@ module _ {l : Log} {n : ℕ} (d : Desk) (from : ℕ) where
       one (alike z e) (stays g) = e
 
       old : Agreed d p → {b : Pair} → Greater (d .best) p b → (k : ℕ) → bitOf (d .replied) k ≡ true
-          → (z : ℕ) × (l ∋ reply k n (d .tries) (d .view) (num (b .stamp)) z)
+          → (z : Value) × (l ∋ reply k n (d .tries) (d .view) (num (b .stamp)) z)
       old (alone z) g k b = absurd (contrary (rw z at b) (bit-none k))
       old (alike z e) (takes g) k b = absurd (omega arith)
       old (alike z e) (stays g) k b = F .agreed z k b
@@ -83,10 +83,10 @@ module _ {l : Log} {n : ℕ} (d : Desk) (from : ℕ) where
       new {k} h e = subst (λ (i : ℕ). l ∋ reply k n (d .tries) (d .view) i (p .value)) e (rw h m)
 
       agreed-all : agrees d p ≡ true → {b : Pair} → Greater (d .best) p b → (k : ℕ) → bitOf (bitOr (d .replied) (2 ^ from)) k ≡ true
-          → (z : ℕ) × (l ∋ reply k n (d .tries) (d .view) (num (b .stamp)) z)
+          → (z : Value) × (l ∋ reply k n (d .tries) (d .view) (num (b .stamp)) z)
       agreed-all e {b} g k i = ⊎-elim (λ h. old (how e) g k h) (λ h. (p .value, new h (one (how e) g))) (or-cases (d .replied) from k i)
 
-  pub ack-noted : {o : Op} → Acks l n d o → (s : ℕ) × (z : ℕ) × (l ∋ reply from n (d .tries) (d .view) s z) → Acks l n (notesAck d from) o
+  pub ack-noted : {o : Op} → Acks l n d o → (s : ℕ) × (z : Value) × (l ∋ reply from n (d .tries) (d .view) s z) → Acks l n (notesAck d from) o
   unfolding notesAck
   ack-noted A m = record {
     each = λ k b. ⊎-elim (λ h. A .each k h) (λ h. rw h m) (or-cases (d .replied) from k b);
@@ -106,7 +106,7 @@ module _ {C : Setting} {l : Log} {n : ℕ} (S : Sound C l) (s : n < 4) (d : Desk
   unfolding completes
   read1-done {m} F f =
       let r : ℕ = num (d .best .stamp) in
-      let y : ℕ = d .best .value in
+      let y : Value = d .best .value in
       let o : Op = record { desk = n; try = m; task = reading; stamp = r; value = y } in
       let S1 : Sound C (settle o ∷ l) = sound-more (settle o) S (settle-justified f r y (read-justified q (F .notes))) in
       cases (DeskDone C l n) (d .agreed)
@@ -132,7 +132,7 @@ module _ {C : Setting} {l : Log} {n : ℕ} (S : Sound C l) (s : n < 4) (d : Desk
   write1-done {m} F f =
       let c : ℕ = num (d .best .stamp) in
       let r : ℕ = 4 * (c / 4 + 1) + n in
-      let y : ℕ = d .holds .value in
+      let y : Value = d .holds .value in
       let p : Pair = record { stamp = record { count = d .best .stamp .count + 1; desk = n }; value = y } in
       let o : Op = record { desk = n; try = m; task = writing y; stamp = r; value = y } in
       let e : r ≡ num (p .stamp) = omega (arith, F .small) in
@@ -141,7 +141,7 @@ module _ {C : Setting} {l : Log} {n : ℕ} (S : Sound C l) (s : n < 4) (d : Desk
       (λ z. begins-done d Write2 (d .view) p refl (add {e = settle o} settles-on stay) S1 (put-justified f r y) (desk-puts f r y S)
       (at-write2 refl (clear-acks d Write2 (d .view) p (suc (d .tries)) e refl s)))
 
-  acknowledged : {o : Op} → Acks l n d o → Most C (d .view) (λ k. (r : ℕ) × (z : ℕ) × (l ∋ reply k n (d .tries) (d .view) r z))
+  acknowledged : {o : Op} → Acks l n d o → Most C (d .view) (λ k. (r : ℕ) × (z : Value) × (l ∋ reply k n (d .tries) (d .view) r z))
   acknowledged A = record { voters = d .replied; quorum = q; each = λ k a i b. A .each k b }
 
   mine : {o : Op} → Doing l n (d .tries) (d .view) (putting o) → o .desk ≡ n
@@ -182,7 +182,7 @@ module _ {C : Setting} {l : Log} {n : ℕ} (S : Sound C l) (s : n < 4) where
     asked-now (at-read2 {o = o} t A) e (puts-now i b c a f) = (o .try, put (o .stamp) (o .value), a)
     asked-now (at-write2 {o = o} t A) e (puts-now i b c a f) = (o .try, put (o .stamp) (o .value), a)
 
-    said-here : {b v x y : ℕ} → current d from try ≡ true → 8 + n ≡ 8 + b → l ∋ reply from b try v x y → l ∋ reply from n (d .tries) (d .view) x y
+    said-here : {b v x : ℕ} {y : Value} → current d from try ≡ true → 8 + n ≡ 8 + b → l ∋ reply from b try v x y → l ∋ reply from n (d .tries) (d .view) x y
     said-here {b} {v} {x} {y} c e m =
         let i = and-eq-true-iff (not (isIdle (d .phase))) (eqb try (d .tries) && member (d .view) from) .0 c in
         let t : try ≡ d .tries = eqb-true try (d .tries) (and-eq-true-iff (eqb try (d .tries)) (member (d .view) from) .0 (i .1) .0) in
@@ -217,7 +217,7 @@ module _ {C : Setting} {l : Log} {n : ℕ} (S : Sound C l) (s : n < 4) where
         counted-done (notesAck d from) (record { stage = h .stage; facts = h .facts; phased = go (h .phased) (c .1) (b .3, b .4, said-here (c .0) (b .2) (b .5)) }))
         (λ e. still d S h)
       where
-        go : {g : Phase} {t : Stage} → Phased l n d g t → isSecond g ≡ true → (r : ℕ) × (z : ℕ) × (l ∋ reply from n (d .tries) (d .view) r z)
+        go : {g : Phase} {t : Stage} → Phased l n d g t → isSecond g ≡ true → (r : ℕ) × (z : Value) × (l ∋ reply from n (d .tries) (d .view) r z)
             → Phased l n (notesAck d from) g t
         go at-rest e m = absurd (false≢true e)
         go (at-read1 F) e m = absurd (false≢true e)

@@ -9,7 +9,7 @@ use borrow.Author.Tests.{not-true}
 use Rattle.views.proofs.Truth.{contrary, cases}
 use Rattle.views.proofs.Digits.{bit-none}
 use Rattle.rules.specs.Sets.{inside}
-use Rattle.rules.specs.Stamps.{Pair, zeroPair}
+use Rattle.rules.specs.Stamps.{Value, Pair, zeroPair}
 use Rattle.rules.specs.Messages.{Sending, toMembers, Event, nothing, readDone, writeDone, Answer, refused, does, quietly}
 use Rattle.rules.specs.declared.Desk.{Desk}
 use Rattle.rules.specs.declared.Phase.{Phase}
@@ -34,7 +34,7 @@ Asking d e = ByDesk d e × Plain e
 -- an operation's end is the last entry of its step, and is told: a read's by event 2, a write's by event 3
 pub data Says : Task → Event → Pair → Type 0 where
   says-read : {p : Pair} → Says reading (readDone p) p
-  says-write : {x : ℕ} {p : Pair} → Says (writing x) (writeDone p) p
+  says-write : {x : Value} {p : Pair} → Says (writing x) (writeDone p) p
 
 pub data Ending (n : ℕ) (l : Log) : Event → Log → Type 0 where
   goes-on : Ending n l nothing l
@@ -137,7 +137,7 @@ module _ {C : Setting} {l : Log} {n : ℕ} (S : Sound C l) (d : Desk) (h : DeskT
         (at-read1 (clear-firsts d Read1 (d .view) zeroPair (suc (d .tries)))))
         (λ e. tt)
 
-    pub write-done : (x : ℕ) → DeskDone C (begin n (suc (d .tries)) (writing x) ∷ l) n (writeAsked d x)
+    pub write-done : (x : Value) → DeskDone C (begin n (suc (d .tries)) (writing x) ∷ l) n (writeAsked d x)
     unfolding writeAsked
     write-done x = cases (DeskDone C (begin n (suc (d .tries)) (writing x) ∷ l) n) (isIdle (d .phase))
         (λ e.

@@ -6,6 +6,7 @@ use mathlib.Core.Bool.{Bool}
 use mathlib.Core.List.{List, [], _∷_, List·Memᴰ·tail}
 use Prim.Native.Nat.{ℕ}
 use native.Mathlib.Omega.{arith}
+use Rattle.rules.specs.Stamps.{Value}
 use Rattle.rules.specs.Messages.{Body, request, view, proposal, converged, install, state as stateSays, get as getSays, put as putSays, viewReply, pairReply, ack, Sending}
 use Rattle.rules.specs.State.{Generator, Transfer, Relay, Place, free, waiting}
 use Rattle.rules.specs.declared.Desk.{Desk}
@@ -155,7 +156,7 @@ module _ {d : Desk} where
 -- ---- the entries of one generator: no other of its relay's is touched, nor the relay's record
 
 module _ (k v : ℕ) where
-  pub facts-turning : {C : Setting} {l m : Log} {u s y : ℕ} {i a : Bool} → Since (Turning k v) l m
+  pub facts-turning : {C : Setting} {l m : Log} {u s : ℕ} {y : Value} {i a : Bool} → Since (Turning k v) l m
       → RelayFacts C l k u s y i a → RelayFacts C m k u s y i a
   facts-turning stay h = h
   facts-turning (add b s) h = relay-other (facts-turning s h) (λ a. omega arith)

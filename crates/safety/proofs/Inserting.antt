@@ -6,6 +6,7 @@ use Prim.Native.Nat.{ℕ, _≤_, _<_}
 use native.Mathlib.Omega.{arith}
 use native.Mathlib.Decide.{decLe}
 use native.Mathlib.Nat.{lt-of-not-le}
+use Rattle.rules.specs.Stamps.{Value, noValue}
 use Rattle.safety.proofs.Log.{Task, reading, writing, Op}
 use Rattle.safety.proofs.Operations.{Writes}
 use Rattle.safety.proofs.Order.{Ops, _contains_, pick, latest, Descending, desc-nil, desc-cons}
@@ -78,18 +79,18 @@ latest-same {o} (below {p = p} {r = r} {r' = r'} k i) l = go (p .task) l (latest
     go (writing y) h ih = refl
 
 -- where there is none
-pub latest-none : (r : Ops) → ((p : Op) → r contains p → Writes p → ⊥) → latest r ≡ (0, 0)
+pub latest-none : (r : Ops) → ((p : Op) → r contains p → Writes p → ⊥) → latest r ≡ (0, noValue)
 unfolding latest
 latest-none [] f = refl
 latest-none (o ∷ r) f = go (o .task) refl (latest-none r (λ p m. f p (List·Memᴰ·tail m)))
   where
-    go : (a : Task) → o .task ≡ a → latest r ≡ (0, 0) → pick a (o .stamp) (latest r) ≡ (0, 0)
+    go : (a : Task) → o .task ≡ a → latest r ≡ (0, noValue) → pick a (o .stamp) (latest r) ≡ (0, noValue)
     go reading e h = h
     go (writing y) e h = absurd (f o (List·Memᴰ·head refl) (y, e))
 
 -- where a write of the highest stamp stands there, and no other
 pub latest-is : {w : Op} {r : Ops} → Descending r → Writes w → r contains w
-    → ((y : ℕ) → w .task ≡ writing y → w .value ≡ y) → ((p : Op) → r contains p → Writes p → p .stamp ≤ w .stamp)
+    → ((y : Value) → w .task ≡ writing y → w .value ≡ y) → ((p : Op) → r contains p → Writes p → p .stamp ≤ w .stamp)
     → ((p : Op) → r contains p → Writes p → p .stamp ≡ w .stamp → p ≡ w)
     → latest r ≡ (w .stamp, w .value)
 unfolding latest
@@ -97,7 +98,7 @@ latest-is desc-nil v m t f g = absurd (List·Memᴰ·not-nil m)
 latest-is {w} (desc-cons {o = o} {r = r} b d) v m t f g =
     go (o .task) refl (List·Memᴰ·cases-cons m) (λ n. latest-is d v n t (λ p k. f p (List·Memᴰ·tail k)) (λ p k. g p (List·Memᴰ·tail k)))
   where
-    told : (y : ℕ) → o .task ≡ writing y → o ≡ w → _≡_ {A = ℕ × ℕ} (o .stamp, y) (w .stamp, w .value)
+    told : (y : Value) → o .task ≡ writing y → o ≡ w → _≡_ {A = ℕ × Value} (o .stamp, y) (w .stamp, w .value)
     told y e c = let h = t y (ap (λ (z : Op). z .task) (sym c) ∙ e) in cc
 
     stamps : r contains w → Writes o → o .stamp ≡ w .stamp

@@ -7,6 +7,7 @@ use mathlib.Core.Logic.{_⊎_}
 use mathlib.Core.List.{List, [], _∷_, List·Memᴰ}
 use Prim.Native.Nat.{ℕ, _+_, _*_, _≤_, _<_}
 use Rattle.views.proofs.Sets.{Inside}
+use Rattle.rules.specs.Stamps.{Value, noValue}
 pub use Rattle.rules.specs.History.{Task, reading, writing}
 use Rattle.safety.proofs.Setting.{Setting}
 use Rattle.safety.proofs.Sequences.{_∈_, _⊆_, Comparable, Sequence, Above, Least, Single, Without}
@@ -19,12 +20,12 @@ pub record Op : Type 0 where
   pub try : ℕ
   pub task : Task
   pub stamp : ℕ
-  pub value : ℕ
+  pub value : Value
 
 -- what a phase asks the relays
 pub data Ask : Type 0 where
   get : Ask
-  put : (s y : ℕ) → Ask
+  put : (s : ℕ) (y : Value) → Ask
 
 pub data Entry : Type 0 where
   -- the relay k makes the first proposal q of its own for the view v; its own sequence for v becomes q; its converged one does; q is raised
@@ -33,15 +34,15 @@ pub data Entry : Type 0 where
   conv : (k v : ℕ) (q : List ℕ) → Entry
   raise : (v : ℕ) (q : List ℕ) → Entry
   -- k, whose view is x, hands on the stamp s and the value y from the view o to w
-  state : (k x o w s y : ℕ) → Entry
+  state : (k x o w s : ℕ) (y : Value) → Entry
   -- k enters w from o by the sequence q, with the stamp s and the value y
-  enter : (k o w : ℕ) (q : List ℕ) (s y : ℕ) → Entry
+  enter : (k o w : ℕ) (q : List ℕ) (s : ℕ) (y : Value) → Entry
   -- the desk d begins an operation with the try t
   begin : (d t : ℕ) (a : Task) → Entry
   -- with the try t it asks the members of v, for its operation that began with the try n
   ask : (d t n v : ℕ) (a : Ask) → Entry
   -- k, in the view v, answers that try; then its stamp is s and its value y
-  reply : (k d t v s y : ℕ) → Entry
+  reply : (k d t v s : ℕ) (y : Value) → Entry
   -- the first phase of an operation came to its quorum; the operation ended
   settle : Op → Entry
   finish : Op → Entry
@@ -70,24 +71,24 @@ l ∋ e = List·Memᴰ e l
 -- ---- what a log shows of a relay k
 
 -- while its view was v, it had the stamp s with the value y
-pub data Shown (l : Log) (k v s y : ℕ) : Type 0 where
+pub data Shown (l : Log) (k v s : ℕ) (y : Value) : Type 0 where
   by-enter : {o : ℕ} {q : List ℕ} → l ∋ enter k o v q s y → Shown l k v s y
   by-reply : {d t : ℕ} → l ∋ reply k d t v s y → Shown l k v s y
 
 -- v may be its view now, and s its stamp: nothing that the log shows of it lies beyond
 abbrev pub Current : Log → ℕ → ℕ → ℕ → Type 0
-Current l k v s = (u r y : ℕ) → Shown l k u r y → Inside u v ⊎ ((u ≡ v) × (r ≤ s))
+Current l k v s = (u r : ℕ) (y : Value) → Shown l k u r y → Inside u v ⊎ ((u ≡ v) × (r ≤ s))
 
 module _ (C : Setting) where
   -- where its view v, its stamp s and its value y come from
-  pub data Has (l : Log) (k v s y : ℕ) : Type 0 where
-    has-start : v ≡ C .view → s ≡ 0 → y ≡ 0 → Has l k v s y
+  pub data Has (l : Log) (k v s : ℕ) (y : Value) : Type 0 where
+    has-start : v ≡ C .view → s ≡ 0 → y ≡ noValue → Has l k v s y
     has-shown : Shown l k v s y → Has l k v s y
 
   -- it became active in v
   pub data Active (l : Log) (k v : ℕ) : Type 0 where
     active-start : v ≡ C .view → Active l k v
-    active-enter : {o s y : ℕ} {q : List ℕ} → l ∋ enter k o v q s y → Single v q → Active l k v
+    active-enter : {o s : ℕ} {y : Value} {q : List ℕ} → l ∋ enter k o v q s y → Single v q → Active l k v
 
 -- ---- what justifies an entry, in the log l before it
 
@@ -117,16 +118,16 @@ Raise C l v q = Most C v (λ k. l ∋ conv k v q)
 pub record Given (l : Log) (o w s k : ℕ) : Type 0 where
   pub view : ℕ
   pub stamp : ℕ
-  pub value : ℕ
+  pub value : Value
   pub sent : l ∋ state k view o w stamp value
   pub low : stamp ≤ s
 
 -- the greatest of what came, where one begins with 0 and 0
-pub data Best (P : ℕ → ℕ → Type 0) (s y : ℕ) : Type 0 where
-  best-none : s ≡ 0 → y ≡ 0 → Best P s y
+pub data Best (P : ℕ → Value → Type 0) (s : ℕ) (y : Value) : Type 0 where
+  best-none : s ≡ 0 → y ≡ noValue → Best P s y
   best-one : P s y → Best P s y
 
-pub record Enter (C : Setting) (l : Log) (o w : ℕ) (q : List ℕ) (s y : ℕ) : Type 0 where
+pub record Enter (C : Setting) (l : Log) (o w : ℕ) (q : List ℕ) (s : ℕ) (y : Value) : Type 0 where
   pub raised : l ∋ raise o q
   pub least : Least w q
   pub given : Most C o (Given l o w s)
@@ -150,15 +151,15 @@ pub record Asks (l : Log) (d t n : ℕ) (a : Ask) : Type 0 where
 -- k answered the try t of the desk d in v, with a stamp that is at most s
 pub record Answered (l : Log) (d t v s k : ℕ) : Type 0 where
   pub stamp : ℕ
-  pub value : ℕ
+  pub value : Value
   pub sent : l ∋ reply k d t v stamp value
   pub low : stamp ≤ s
 
 -- what the first phase makes of the answers to its try t in v: a read takes the greatest; a write takes the count above c, where no
 -- answer's count is above c
-pub data Result (C : Setting) (l : Log) (d t v : ℕ) : Task → ℕ → ℕ → Type 0 where
-  read-result : {s y : ℕ} → Most C v (Answered l d t v s) → Best (λ r z. (k : ℕ) × (l ∋ reply k d t v r z)) s y → Result C l d t v reading s y
-  write-result : {y : ℕ} (c : ℕ) → Most C v (Answered l d t v (4 * c + 3)) → Result C l d t v (writing y) (4 * (c + 1) + d) y
+pub data Result (C : Setting) (l : Log) (d t v : ℕ) : Task → ℕ → Value → Type 0 where
+  read-result : {s : ℕ} {y : Value} → Most C v (Answered l d t v s) → Best (λ r z. (k : ℕ) × (l ∋ reply k d t v r z)) s y → Result C l d t v reading s y
+  write-result : {y : Value} (c : ℕ) → Most C v (Answered l d t v (4 * c + 3)) → Result C l d t v (writing y) (4 * (c + 1) + d) y
 
 pub record Settle (C : Setting) (l : Log) (o : Op) : Type 0 where
   pub begun : l ∋ begin (o .desk) (o .try) (o .task)
@@ -170,9 +171,9 @@ pub record Settle (C : Setting) (l : Log) (o : Op) : Type 0 where
 
 -- the last quorum: a read's replies agreed on the stamp, or all replied to a put of it
 pub data Ends (C : Setting) (l : Log) (o : Op) : Type 0 where
-  agreed : {t v : ℕ} → Most C v (λ k. (z : ℕ) × (l ∋ reply k (o .desk) t v (o .stamp) z)) → Ends C l o
+  agreed : {t v : ℕ} → Most C v (λ k. (z : Value) × (l ∋ reply k (o .desk) t v (o .stamp) z)) → Ends C l o
   put-down : {t v : ℕ} → l ∋ ask (o .desk) t (o .try) v (put (o .stamp) (o .value))
-      → Most C v (λ k. (r : ℕ) × (z : ℕ) × (l ∋ reply k (o .desk) t v r z)) → Ends C l o
+      → Most C v (λ k. (r : ℕ) × (z : Value) × (l ∋ reply k (o .desk) t v r z)) → Ends C l o
 
 pub record Finish (C : Setting) (l : Log) (o : Op) : Type 0 where
   pub settled : l ∋ settle o
@@ -183,27 +184,27 @@ module _ (C : Setting) where
   -- the relay proposes: by its timer, being active; or on entering v, what is left of the sequence
   pub data First (l : Log) (k v : ℕ) (q : List ℕ) : Type 0 where
     by-timer : Active C l k v → First l k v q
-    by-entry : {o s y : ℕ} {r : List ℕ} → l ∋ enter k o v r s y → Without v r q → First l k v q
+    by-entry : {o s : ℕ} {y : Value} {r : List ℕ} → l ∋ enter k o v r s y → Without v r q → First l k v q
 
-  pub record State (l : Log) (k x o s y : ℕ) : Type 0 where
+  pub record State (l : Log) (k x o s : ℕ) (y : Value) : Type 0 where
     pub reached : (x ≡ o) ⊎ Inside o x
     pub has : Has C l k x s y
     pub current : Current l k x s
 
   -- the answer to a get is what the relay has; a put is stored where greater, and answered either way
-  pub data Answers (l : Log) (k v s y : ℕ) : Ask → Type 0 where
+  pub data Answers (l : Log) (k v s : ℕ) (y : Value) : Ask → Type 0 where
     got : Has C l k v s y → Answers l k v s y get
-    kept : {r z : ℕ} → Has C l k v s y → r ≤ s → Answers l k v s y (put r z)
+    kept : {r : ℕ} {z : Value} → Has C l k v s y → r ≤ s → Answers l k v s y (put r z)
     stored : Answers l k v s y (put s y)
 
   -- only an active relay answers: it opened v, and has not handed on from it
-  pub record Reply (l : Log) (k d t v s y : ℕ) : Type 0 where
+  pub record Reply (l : Log) (k d t v s : ℕ) (y : Value) : Type 0 where
     pub try : ℕ
     pub asked : Ask
     pub to : l ∋ ask d t try v asked
     pub answers : Answers l k v s y asked
     pub active : Active C l k v
-    pub going : (o w r z : ℕ) → l ∋ state k v o w r z → Inside v w → ⊥
+    pub going : (o w r : ℕ) (z : Value) → l ∋ state k v o w r z → Inside v w → ⊥
     pub current : Current l k v s
 
   abbrev pub Justified : Log → Entry → Type 0

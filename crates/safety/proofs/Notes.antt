@@ -12,26 +12,27 @@ use borrow.Author.Tests.{eqb-true}
 use Rattle.views.specs.View.{bitOf, reachesOf}
 use Rattle.views.proofs.Truth.{contrary, either-true}
 use Rattle.views.proofs.Digits.{bit-none, bit-or, bit-one}
+use Rattle.rules.specs.Stamps.{Value, noValue}
 use Rattle.safety.proofs.Setting.{Setting}
 use Rattle.safety.proofs.Sequences.{Least}
 use Rattle.safety.proofs.Quorums.{Most, most-map}
 use Rattle.safety.proofs.Log.{Log, _∋_, state, reply, raise, reading, writing, Best, best-none, best-one, Enter, Answered, Result, read-result, write-result}
 
-pub record Sent (P : ℕ → ℕ → ℕ → Type 0) (s k : ℕ) : Type 0 where
+pub record Sent (P : ℕ → ℕ → Value → Type 0) (s k : ℕ) : Type 0 where
   pub stamp : ℕ
-  pub value : ℕ
+  pub value : Value
   pub sent : P k stamp value
   pub low : stamp ≤ s
 
-pub record Notes (P : ℕ → ℕ → ℕ → Type 0) (mask s y : ℕ) : Type 0 where
+pub record Notes (P : ℕ → ℕ → Value → Type 0) (mask s : ℕ) (y : Value) : Type 0 where
   pub each : (k : ℕ) → bitOf mask k ≡ true → Sent P s k
   pub best : Best (λ r z. (k : ℕ) × P k r z) s y
 
-pub notes-none : {P : ℕ → ℕ → ℕ → Type 0} → Notes P 0 0 0
+pub notes-none : {P : ℕ → ℕ → Value → Type 0} → Notes P 0 0 noValue
 notes-none = record { each = λ k d. absurd (contrary d (bit-none k)); best = best-none refl refl }
 
 -- as the log grows
-pub notes-more : {P Q : ℕ → ℕ → ℕ → Type 0} {m s y : ℕ} → ((k r z : ℕ) → P k r z → Q k r z) → Notes P m s y → Notes Q m s y
+pub notes-more : {P Q : ℕ → ℕ → Value → Type 0} {m s : ℕ} {y : Value} → ((k r : ℕ) (z : Value) → P k r z → Q k r z) → Notes P m s y → Notes Q m s y
 notes-more {P} {Q} {m} {s} {y} f n = record { each = λ k d. up k (n .each k d); best = go (n .best) }
   where
     up : (k : ℕ) → Sent P s k → Sent Q s k
@@ -42,7 +43,7 @@ notes-more {P} {Q} {m} {s} {y} f n = record { each = λ k d. up k (n .each k d);
     go (best-one h) = best-one (h .0, f (h .0) s y (h .1))
 
 -- one more comes, from j: a greater stamp is taken, and of equal ones that which was there stays
-module _ {P : ℕ → ℕ → ℕ → Type 0} {m s y j r z : ℕ} (n : Notes P m s y) (h : P j r z) where
+module _ {P : ℕ → ℕ → Value → Type 0} {m s : ℕ} {y : Value} {j r : ℕ} {z : Value} (n : Notes P m s y) (h : P j r z) where
   each-more : {t : ℕ} → s ≤ t → r ≤ t → (k : ℕ) → bitOf (bitOr m (2 ^ j)) k ≡ true → Sent P t k
   each-more {t} a b k d = ⊎-elim (λ e. old (n .each k e)) (λ e. new (eqb-true k j (sym (bit-one k j) ∙ e))) (either-true (bitOf m k) (bitOf (2 ^ j) k) (sym (bit-or k m (2 ^ j)) ∙ d))
     where
@@ -59,17 +60,17 @@ module _ {P : ℕ → ℕ → ℕ → Type 0} {m s y j r z : ℕ} (n : Notes P m
   note-other l = record { each = each-more (omega arith) l; best = n .best }
 
 -- where those who sent are a quorum
-pub notes-most : {C : Setting} {P : ℕ → ℕ → ℕ → Type 0} {v m s y : ℕ} → reachesOf v m ≡ true → Notes P m s y → Most C v (Sent P s)
+pub notes-most : {C : Setting} {P : ℕ → ℕ → Value → Type 0} {v m s : ℕ} {y : Value} → reachesOf v m ≡ true → Notes P m s y → Most C v (Sent P s)
 notes-most {m = m} q n = record { voters = m; quorum = q; each = λ k l i d. n .each k d }
 
 -- a transfer from o to w lets a relay enter w, and a desk's first phase comes to its result
-abbrev pub States : Log → ℕ → ℕ → ℕ → ℕ → ℕ → Type 0
+abbrev pub States : Log → ℕ → ℕ → ℕ → ℕ → Value → Type 0
 States l o w k r z = (x : ℕ) × (l ∋ state k x o w r z)
 
-abbrev pub Replies : Log → ℕ → ℕ → ℕ → ℕ → ℕ → ℕ → Type 0
+abbrev pub Replies : Log → ℕ → ℕ → ℕ → ℕ → ℕ → Value → Type 0
 Replies l d n u k r z = l ∋ reply k d n u r z
 
-module _ {C : Setting} {l : Log} {m s y : ℕ} where
+module _ {C : Setting} {l : Log} {m s : ℕ} {y : Value} where
   pub enter-justified : {o w : ℕ} {q : List ℕ} → l ∋ raise o q → Least w q → reachesOf o m ≡ true → Notes (States l o w) m s y → Enter C l o w q s y
   enter-justified h t q n = record {
     raised = h;
@@ -86,5 +87,5 @@ module _ {C : Setting} {l : Log} {m s y : ℕ} where
     read-justified = read-result answered (b .best)
 
     -- the count of the greatest stamp is the greatest count
-    pub write-justified : {x : ℕ} → Result C l d n u (writing x) (4 * (s / 4 + 1) + d) x
+    pub write-justified : {x : Value} → Result C l d n u (writing x) (4 * (s / 4 + 1) + d) x
     write-justified = write-result (s / 4) (most-map (λ k a. record { stamp = a .stamp; value = a .value; sent = a .sent; low = omega (arith, a .low) }) answered)

@@ -5,7 +5,7 @@ use mathlib.Core.Logic.{_⊎_, inl, inr}
 use mathlib.Core.Bool.{true, false}
 use Prim.Native.Nat.{ℕ, _+_, _*_, _/_, _%_, _≤_, _<_}
 use native.Mathlib.Omega.{arith}
-use Rattle.rules.specs.Stamps.{Stamp, Pair, greater, sameStamp, greatest}
+use Rattle.rules.specs.Stamps.{Stamp, Value, Pair, greater, sameStamp, greatest}
 use Rattle.stamps.proofs.Order.{Above, by-count, by-desk, AtMost, level, under, at-most-not-greater, same-equal, greatest-takes, greatest-stays, above-or-at-most}
 
 abbrev pub num : Stamp → ℕ
@@ -18,7 +18,7 @@ Small p = p .stamp .desk < 4
 unfoldable pub stampOf : ℕ → Stamp
 stampOf n = record { count = n / 4; desk = n % 4 }
 
-unfoldable pub pairOf : ℕ → ℕ → Pair
+unfoldable pub pairOf : ℕ → Value → Pair
 unfolding stampOf
 pairOf n y = record { stamp = stampOf n; value = y }
 

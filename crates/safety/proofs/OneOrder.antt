@@ -5,6 +5,7 @@ use mathlib.Core.List.{[], _∷_, List·Memᴰ·head, List·Memᴰ·tail, List·
 use Prim.Native.Nat.{ℕ, _≤_, _<_}
 use native.Mathlib.Omega.{arith}
 use native.Mathlib.Decide.{ℕ-discrete}
+use Rattle.rules.specs.Stamps.{Value, noValue}
 use Rattle.safety.proofs.Setting.{Setting}
 use Rattle.safety.proofs.Log.{Task, reading, writing, Op, Entry, tag, Log, _∋_, first, own, conv, raise, state, enter, begin, ask, reply, settle, finish, Sound}
 use Rattle.safety.proofs.Past.{Past, now, back, past-has, past-trans, here, sound-past, justified, why}
@@ -123,7 +124,7 @@ record Line (t l : Log) (r : Ops) : Type 0 where
 
 -- where a read's stamp and value come from
 data Source (o : Op) (r : Ops) : Type 0 where
-  zero : o .stamp ≡ 0 → o .value ≡ 0 → Source o r
+  zero : o .stamp ≡ 0 → o .value ≡ noValue → Source o r
   write : {w : Op} → r contains w → Writes w → w .stamp ≡ o .stamp → w .value ≡ o .value → Source o r
 
 module _ {C : Setting} {t : Log} (S : Sound C t) where
@@ -177,7 +178,7 @@ module _ {C : Setting} {t : Log} (S : Sound C t) where
         timely p (inr m) q = n .timely p m q
 
         returns : latest r ≡ (h .stamp, h .value) → latest r' ≡ (h .stamp, h .value)
-        returns e = latest-same i (omega (arith, ap (λ (z : ℕ × ℕ). z .0) e)) ∙ e
+        returns e = latest-same i (omega (arith, ap (λ (z : ℕ × Value). z .0) e)) ∙ e
 
     lined-more : {r r' : Ops} → Inserted o r r' → New o r → Descending r → Lined t r → Lined t r'
     lined-more (above f) n d s = lined-cons (record { once = n .absent; timely = n .timely; returns = λ g. returns-latest n d f (n .source g) }) s

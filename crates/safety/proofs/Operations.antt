@@ -7,6 +7,7 @@ use mathlib.Core.Path.{_≡_, refl, sym, subst, _∙_}
 use mathlib.Core.List.{List, [], _∷_, List·Memᴰ·head, List·Memᴰ·tail, List·Memᴰ·not-nil}
 use Prim.Native.Nat.{ℕ, _+_, _*_, _≤_, _<_}
 use native.Mathlib.Omega.{arith}
+use Rattle.rules.specs.Stamps.{Value, noValue}
 use Rattle.safety.proofs.Setting.{Setting}
 use Rattle.safety.proofs.Quorums.{Most, most-map}
 use Rattle.safety.proofs.Log.{Task, reading, writing, Op, Ask, get, put, Entry, Log, _∋_, state, enter, begin, ask, reply, settle, finish, Has, has-start, has-shown, by-enter, by-reply, Best, best-none, best-one, Sends, sends-get, sends-put, Answered, Result, read-result, write-result, Ends, agreed, put-down, Answers, got, kept, stored, Justified, Sound}
@@ -14,7 +15,7 @@ use Rattle.safety.proofs.Past.{Past, now, back, past-has, past-trans, p
 use Rattle.safety.proofs.Stay.{Reached, reached-later, Late, carried}
 
 abbrev pub Writes : Op → Type 0
-Writes o = (y : ℕ) × (o .task ≡ writing y)
+Writes o = (y : Value) × (o .task ≡ writing y)
 
 abbrev pub Reads : Op → Type 0
 Reads o = o .task ≡ reading
@@ -40,7 +41,7 @@ module _ {C : Setting} {t : Log} (S : Sound C t) where
           pick (later h) = absurd (omega (arith, f .is .fresh n b w y (here h)))
 
   -- so an answer to a try was given in the view that was asked
-  pub reply-view : {k d n a v w s y : ℕ} {x : Ask} → t ∋ reply k d n v s y → t ∋ ask d n a w x → v ≡ w
+  pub reply-view : {k d n a v w s : ℕ} {y : Value} {x : Ask} → t ∋ reply k d n v s y → t ∋ ask d n a w x → v ≡ w
   reply-view m h = let f = why S m in ask-once (past-has (back (f .past)) (f .is .to)) h .1
 
   pub begin-once : {d n : ℕ} {a b : Task} {l m : Log} → Past t (begin d n a ∷ l) → Past t (begin d n b ∷ m) → l ≡ m
@@ -65,7 +66,7 @@ module _ {C : Setting} {t : Log} (S : Sound C t) where
   -- ---- the inequality
 
   -- an operation that ends has its stamp in a quorum
-  put-reached : {l : Log} {k d n a v s y r z : ℕ} → Past t l → l ∋ ask d n a v (put s y) → l ∋ reply k d n v r z → Reached l v s k
+  put-reached : {l : Log} {k d n a v s : ℕ} {y : Value} {r : ℕ} {z : Value} → Past t l → l ∋ ask d n a v (put s y) → l ∋ reply k d n v r z → Reached l v s k
   put-reached {l} {k} {d} {n} {a} {v} {s} {y} {r} {z} p m h = go (why S (past-has p h))
     where
       low : {x : Ask} → x ≡ put s y → {m : Log} → Answers C m k v r z x → s ≤ r
@@ -114,8 +115,8 @@ module _ {C : Setting} {t : Log} (S : Sound C t) where
   Below reading r s = r ≤ s
   Below (writing y) r s = r < s
 
-  result-below : {l m : Log} {d n a v s y r u : ℕ} {b c : Task} → Past t (begin d a c ∷ l) → Past t m → m ∋ ask d n a v get → Result C m d n v b s y
-      → Most C u (Reached l u r) → Below b r s
+  result-below : {l m : Log} {d n a v s : ℕ} {y : Value} {r u : ℕ} {b c : Task} → Past t (begin d a c ∷ l) → Past t m → m ∋ ask d n a v get
+      → Result C m d n v b s y → Most C u (Reached l u r) → Below b r s
   result-below {s = s} p q g (read-result h f) st =
       let c = carried S {P = λ z. z ≤ s} (back p) st (most-map (λ k a. late p q g a) h) in
       omega (arith, c .1, c .2)
@@ -141,7 +142,7 @@ module _ {C : Setting} {t : Log} (S : Sound C t) where
   -- ---- the stamps of writes
 
   -- a write's stamp holds its desk, and is not 0
-  write-stamp : {l : Log} {d n v s y z : ℕ} {b : Task} → Result C l d n v b s y → b ≡ writing z → (c : ℕ) × (s ≡ 4 * (c + 1) + d) × (y ≡ z)
+  write-stamp : {l : Log} {d n v s : ℕ} {y z : Value} {b : Task} → Result C l d n v b s y → b ≡ writing z → (c : ℕ) × (s ≡ 4 * (c + 1) + d) × (y ≡ z)
   write-stamp (read-result h f) e = let z : _≡_ {A = ℕ} 0 1 = cc in absurd (omega arith)
   write-stamp (write-result c h) e = (c, refl, cc)
 
@@ -195,25 +196,25 @@ module _ {C : Setting} {t : Log} (S : Sound C t) where
 -- ---- stamps and their values
 
 -- the entries that hold a stamp with a value
-data Holds : Entry → ℕ → ℕ → Type 0 where
-  in-enter : {k o w s y : ℕ} {q : List ℕ} → Holds (enter k o w q s y) s y
-  in-reply : {k d n v s y : ℕ} → Holds (reply k d n v s y) s y
-  in-state : {k x o w s y : ℕ} → Holds (state k x o w s y) s y
+data Holds : Entry → ℕ → Value → Type 0 where
+  in-enter : {k o w s : ℕ} {y : Value} {q : List ℕ} → Holds (enter k o w q s y) s y
+  in-reply : {k d n v s : ℕ} {y : Value} → Holds (reply k d n v s y) s y
+  in-state : {k x o w s : ℕ} {y : Value} → Holds (state k x o w s y) s y
   in-settle : {o : Op} → Holds (settle o) (o .stamp) (o .value)
 
 -- 0 and 0, or the stamp and the value of a write
-pub data Backed (t : Log) (s y : ℕ) : Type 0 where
-  nothing : s ≡ 0 → y ≡ 0 → Backed t s y
+pub data Backed (t : Log) (s : ℕ) (y : Value) : Type 0 where
+  nothing : s ≡ 0 → y ≡ noValue → Backed t s y
   written : {o : Op} → t ∋ settle o → Writes o → o .stamp ≡ s → o .value ≡ y → Backed t s y
 
 module _ {C : Setting} {t : Log} (S : Sound C t) where
-  module _ {l : Log} (p : Past t l) (ih : (e : Entry) (s y : ℕ) → l ∋ e → Holds e s y → Backed t s y) where
-    has-backed : {m : Log} {k v s y : ℕ} → Past l m → Has C m k v s y → Backed t s y
+  module _ {l : Log} (p : Past t l) (ih : (e : Entry) (s : ℕ) (y : Value) → l ∋ e → Holds e s y → Backed t s y) where
+    has-backed : {m : Log} {k v s : ℕ} {y : Value} → Past l m → Has C m k v s y → Backed t s y
     has-backed q (has-start e f g) = nothing f g
     has-backed q (has-shown (by-enter h)) = ih _ _ _ (past-has q h) in-enter
     has-backed q (has-shown (by-reply h)) = ih _ _ _ (past-has q h) in-reply
 
-    put-backed : {d n a v s y : ℕ} → l ∋ ask d n a v (put s y) → Backed t s y
+    put-backed : {d n a v s : ℕ} {y : Value} → l ∋ ask d n a v (put s y) → Backed t s y
     put-backed {d} {n} {a} {v} {s} {y} h = go (why (sound-past S p) h)
       where
         pick : {m : Log} {x : Ask} → Past l m → x ≡ put s y → Sends m d a x → Backed t s y
@@ -221,31 +222,31 @@ module _ {C : Setting} {t : Log} (S : Sound C t) where
         pick q e (sends-put {o = o} h b c) =
             let f : o .stamp ≡ s = cc in
             let g : o .value ≡ y = cc in
-            subst (λ (i : ℕ). Backed t s i) g (subst (λ (i : ℕ). Backed t i (o .value)) f (ih _ _ _ (past-has q h) in-settle))
+            subst (λ (i : Value). Backed t s i) g (subst (λ (i : ℕ). Backed t i (o .value)) f (ih _ _ _ (past-has q h) in-settle))
 
         go : Why C l (ask d n a v (put s y)) → Backed t s y
         go w = pick (back (w .past)) refl (w .is .sends)
 
-    answer-backed : {k d n a v s y : ℕ} {x : Ask} → l ∋ ask d n a v x → Answers C l k v s y x → Backed t s y
+    answer-backed : {k d n a v s : ℕ} {y : Value} {x : Ask} → l ∋ ask d n a v x → Answers C l k v s y x → Backed t s y
     answer-backed h (got f) = has-backed now f
     answer-backed h (kept f g) = has-backed now f
     answer-backed h stored = put-backed h
 
-    best-backed : {P : ℕ → ℕ → Type 0} {s y : ℕ} → ((r z : ℕ) → P r z → Backed t r z) → Best P s y → Backed t s y
+    best-backed : {P : ℕ → Value → Type 0} {s : ℕ} {y : Value} → ((r : ℕ) (z : Value) → P r z → Backed t r z) → Best P s y → Backed t s y
     best-backed f (best-none d e) = nothing d e
     best-backed f (best-one h) = f _ _ h
 
-    result-backed : {d n v s y : ℕ} {b : Task} → ((z : ℕ) → b ≡ writing z → y ≡ z → Backed t s y) → Result C l d n v b s y → Backed t s y
+    result-backed : {d n v s : ℕ} {y : Value} {b : Task} → ((z : Value) → b ≡ writing z → y ≡ z → Backed t s y) → Result C l d n v b s y → Backed t s y
     result-backed f (read-result h g) = best-backed (λ r z h. ih _ _ _ (h .1) in-reply) g
     result-backed f (write-result c h) = f _ refl refl
 
-    step-backed : {e : Entry} {s y : ℕ} → t ∋ e → Justified C l e → Holds e s y → Backed t s y
+    step-backed : {e : Entry} {s : ℕ} {y : Value} → t ∋ e → Justified C l e → Holds e s y → Backed t s y
     step-backed m j in-enter = best-backed (λ r z h. ih _ _ _ (h .1 .1) in-state) (j .best)
     step-backed m j in-reply = answer-backed (j .to) (j .answers)
     step-backed m j in-state = has-backed now (j .has)
     step-backed m j in-settle = result-backed (λ z e f. written m (z, e) refl refl) (j .result)
 
-  holds-backed : (l : Log) → Past t l → (e : Entry) (s y : ℕ) → l ∋ e → Holds e s y → Backed t s y
+  holds-backed : (l : Log) → Past t l → (e : Entry) (s : ℕ) (y : Value) → l ∋ e → Holds e s y → Backed t s y
   holds-backed [] p e s y m h = absurd (List·Memᴰ·not-nil m)
   holds-backed (f ∷ l) p e s y (List·Memᴰ·tail m) h = holds-backed l (back p) e s y m h
   holds-backed (f ∷ l) p e s y (List·Memᴰ·head d) h = step-backed (back p) (holds-backed l (back p)) (past-has p (List·Memᴰ·head d)) (because S p d) h
@@ -254,5 +255,5 @@ module _ {C : Setting} {t : Log} (S : Sound C t) where
   backed {o} m = holds-backed t now _ _ _ m in-settle
 
   -- and a write's value is the one it was told
-  pub write-value : {o : Op} {y : ℕ} → t ∋ settle o → o .task ≡ writing y → o .value ≡ y
+  pub write-value : {o : Op} {y : Value} → t ∋ settle o → o .task ≡ writing y → o .value ≡ y
   write-value m e = write-stamp S (why S m .is .result) e .2

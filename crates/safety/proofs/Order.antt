@@ -4,6 +4,7 @@
 use mathlib.Core.Path.{_≡_}
 use mathlib.Core.List.{List, [], _∷_, List·Memᴰ}
 use Prim.Native.Nat.{ℕ, _≤_}
+use Rattle.rules.specs.Stamps.{Value, noValue}
 use Rattle.safety.proofs.Log.{Task, reading, writing, Op, Log, _∋_, settle, finish}
 use Rattle.safety.proofs.Operations.{Writes, Reads, Precedes}
 
@@ -22,12 +23,12 @@ pub data Counts (t : Log) (o : Op) : Type 0 where
   returned : {p : Op} → t ∋ settle o → Writes o → t ∋ finish p → Reads p → p .stamp ≡ o .stamp → Counts t o
 
 -- the stamp of the last write of an order (newest first) and the value it was told to write, or 0 and 0 where there is none
-abbrev pub pick : Task → ℕ → ℕ × ℕ → ℕ × ℕ
+abbrev pub pick : Task → ℕ → ℕ × Value → ℕ × Value
 pick reading s b = b
 pick (writing y) s b = (s, y)
 
-unfoldable pub latest : Ops → ℕ × ℕ
-latest [] = (0, 0)
+unfoldable pub latest : Ops → ℕ × Value
+latest [] = (0, noValue)
 latest (o ∷ r) = pick (o .task) (o .stamp) (latest r)
 
 -- o may stand next after the operations r

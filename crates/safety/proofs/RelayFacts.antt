@@ -7,6 +7,7 @@ use mathlib.Core.List.{List, [], _∷_, List·Memᴰ·head, List·Memᴰ·tail, 
 use Prim.Native.Nat.{ℕ, _≤_, _<_}
 use native.Mathlib.Omega.{arith}
 use Rattle.views.proofs.Sets.{Inside, inside-irrefl, inside-trans}
+use Rattle.rules.specs.Stamps.{Value, noValue}
 use Rattle.safety.proofs.Setting.{Setting}
 use Rattle.safety.proofs.Sequences.{Single}
 use Rattle.safety.proofs.Log.{Ask, Entry, tag, Log, _∋_, state, enter, ask, reply, Shown, by-enter, by-reply, Current, Has, has-start, has-shown, Active, active-start, active-enter, State, Answers, Reply}
@@ -16,15 +17,15 @@ use Rattle.safety.proofs.Entries.{older, past-kind}
 -- ---- a relay
 
 -- the relay k has the view v, the stamp s and the value y, has entered or not, and is active or not
-pub record RelayFacts (C : Setting) (l : Log) (k v s y : ℕ) (in-view active : Bool) : Type 0 where
+pub record RelayFacts (C : Setting) (l : Log) (k v s : ℕ) (y : Value) (in-view active : Bool) : Type 0 where
   pub has : in-view ≡ true → Has C l k v s y
   pub current : Current l k v s
-  pub handed : (x o w r z : ℕ) → l ∋ state k x o w r z → (x ≡ v) ⊎ Inside x v
+  pub handed : (x o w r : ℕ) (z : Value) → l ∋ state k x o w r z → (x ≡ v) ⊎ Inside x v
   pub opened : active ≡ true → Active C l k v
-  pub going : active ≡ true → (o w r z : ℕ) → l ∋ state k v o w r z → Inside v w → ⊥
+  pub going : active ≡ true → (o w r : ℕ) (z : Value) → l ∋ state k v o w r z → Inside v w → ⊥
 
 -- what an entry e may add to what is shown of k
-shown-cases : {l : Log} {e : Entry} {k u c x : ℕ} {A : Type 0} → Shown (e ∷ l) k u c x
+shown-cases : {l : Log} {e : Entry} {k u c : ℕ} {x : Value} {A : Type 0} → Shown (e ∷ l) k u c x
     → ((o : ℕ) (q : List ℕ) → enter k o u q c x ≡ e → A) → ((d n : ℕ) → reply k d n u c x ≡ e → A) → (Shown l k u c x → A) → A
 shown-cases {l} {e} {k} {u} {c} {x} {A} (by-enter {o = o} {q = q} m) f g h = go (List·Memᴰ·cases-cons m)
   where
@@ -44,15 +45,15 @@ current-raised {v = v} {s = s} {b = b} f g u c x h = go (f u c x h)
     go (inl i) = inl i
     go (inr e) = inr (e .0, omega (arith, e .1))
 
-unshown : {k v s y : ℕ} → Shown [] k v s y → ⊥
+unshown : {k v s : ℕ} {y : Value} → Shown [] k v s y → ⊥
 unshown (by-enter m) = List·Memᴰ·not-nil m
 unshown (by-reply m) = List·Memᴰ·not-nil m
 
-shown-more : {l : Log} {e : Entry} {k v s y : ℕ} → Shown l k v s y → Shown (e ∷ l) k v s y
+shown-more : {l : Log} {e : Entry} {k v s : ℕ} {y : Value} → Shown l k v s y → Shown (e ∷ l) k v s y
 shown-more (by-enter m) = by-enter (List·Memᴰ·tail m)
 shown-more (by-reply m) = by-reply (List·Memᴰ·tail m)
 
-module _ {C : Setting} {l : Log} {k v s y : ℕ} {i a : Bool} (r : RelayFacts C l k v s y i a) where
+module _ {C : Setting} {l : Log} {k v s : ℕ} {y : Value} {i a : Bool} (r : RelayFacts C l k v s y i a) where
   has-more : {e : Entry} → i ≡ true → Has C (e ∷ l) k v s y
   has-more {e} c = go (r .has c)
     where
@@ -81,7 +82,7 @@ module _ {C : Setting} {l : Log} {k v s y : ℕ} {i a : Bool} (r : RelayFacts C 
       other c h i = n (rw c at h, rw c at i)
 
   -- k enters w
-  pub relay-enter : {o w b z : ℕ} {q : List ℕ} {opens : Bool} → Inside v w → (opens ≡ true → Single w q)
+  pub relay-enter : {o w b : ℕ} {z : Value} {q : List ℕ} {opens : Bool} → Inside v w → (opens ≡ true → Single w q)
       → RelayFacts C (enter k o w q b z ∷ l) k w b z true opens
   relay-enter {o} {w} {b} {z} {q} j f = record {
     has = λ c. has-shown (by-enter (List·Memᴰ·head refl));
@@ -107,7 +108,7 @@ module _ {C : Setting} {l : Log} {k v s y : ℕ} {i a : Bool} (r : RelayFacts C 
       fresh (inr h) = inside-irrefl (inside-trans h j)
 
   -- k answers
-  pub relay-reply : {d n b z : ℕ} → s ≤ b → RelayFacts C (reply k d n v b z ∷ l) k v b z i a
+  pub relay-reply : {d n b : ℕ} {z : Value} → s ≤ b → RelayFacts C (reply k d n v b z ∷ l) k v b z i a
   relay-reply {d} {n} {b} {z} g = record {
     has = λ c. has-shown (by-reply (List·Memᴰ·head refl));
     current = λ u c x h. shown-cases h
@@ -132,11 +133,11 @@ module _ {C : Setting} {l : Log} {k v s y : ℕ} {i a : Bool} (r : RelayFacts C 
     going = λ c o' w' d x m h. going c (List·Memᴰ·cases-cons m) h;
   }
     where
-      handed : {x o' w' b' z' : ℕ} → (state k x o' w' b' z' ≡ state k v o w s y) ⊎ (l ∋ state k x o' w' b' z') → (x ≡ v) ⊎ Inside x v
+      handed : {x o' w' b' : ℕ} {z' : Value} → (state k x o' w' b' z' ≡ state k v o w s y) ⊎ (l ∋ state k x o' w' b' z') → (x ≡ v) ⊎ Inside x v
       handed (inl c) = inl (cc)
       handed (inr m) = r .handed _ _ _ _ _ m
 
-      going : {o' w' b' z' : ℕ} → goes ≡ true → (state k v o' w' b' z' ≡ state k v o w s y) ⊎ (l ∋ state k v o' w' b' z') → Inside v w' → ⊥
+      going : {o' w' b' : ℕ} {z' : Value} → goes ≡ true → (state k v o' w' b' z' ≡ state k v o w s y) ⊎ (l ∋ state k v o' w' b' z') → Inside v w' → ⊥
       going {w' = w'} g (inl c) h = f g .1 (subst (λ (x : ℕ). Inside v x) (let e : w' ≡ w = cc in e) h)
       going g (inr m) h = r .going (f g .0) _ _ _ _ m h
 
@@ -144,7 +145,7 @@ module _ {C : Setting} {l : Log} {k v s y : ℕ} {i a : Bool} (r : RelayFacts C 
   pub state-justified : {o : ℕ} → i ≡ true → (v ≡ o) ⊎ Inside o v → State C l k v o s y
   state-justified c h = record { reached = h; has = r .has c; current = r .current }
 
-  pub reply-justified : {d n m b z : ℕ} {x : Ask} → a ≡ true → l ∋ ask d n m v x → s ≤ b → Answers C l k v b z x → Reply C l k d n v b z
+  pub reply-justified : {d n m b : ℕ} {z : Value} {x : Ask} → a ≡ true → l ∋ ask d n m v x → s ≤ b → Answers C l k v b z x → Reply C l k d n v b z
   reply-justified {m = m} {x = x} c h g f = record {
     try = m;
     asked = x;
@@ -156,7 +157,7 @@ module _ {C : Setting} {l : Log} {k v s y : ℕ} {i a : Bool} (r : RelayFacts C 
   }
 
 -- at the start: a member of the start view, and another relay
-pub relay-starts : (C : Setting) (k : ℕ) → RelayFacts C [] k (C .view) 0 0 true true
+pub relay-starts : (C : Setting) (k : ℕ) → RelayFacts C [] k (C .view) 0 noValue true true
 relay-starts C k = record {
   has = λ c. has-start refl refl refl;
   current = λ u c x h. absurd (unshown h);
@@ -165,7 +166,7 @@ relay-starts C k = record {
   going = λ c o w b z m. absurd (List·Memᴰ·not-nil m);
 }
 
-pub relay-waits : (C : Setting) (k : ℕ) → RelayFacts C [] k 0 0 0 false false
+pub relay-waits : (C : Setting) (k : ℕ) → RelayFacts C [] k 0 0 noValue false false
 relay-waits C k = record {
   has = λ c. absurd (false≢true c);
   current = λ u c x h. absurd (unshown h);

@@ -9,6 +9,7 @@ use mathlib.Core.List.{List, [], _∷_, List·Memᴰ·head, List·Memᴰ·tail, 
 use Prim.Native.Nat.{ℕ, _≤_}
 use native.Mathlib.Omega.{arith}
 use Rattle.views.proofs.Sets.{Inside, inside-irrefl, inside-trans}
+use Rattle.rules.specs.Stamps.{Value}
 use Rattle.safety.proofs.Setting.{Setting}
 use Rattle.safety.proofs.Sequences.{Comparable, same, inner, outer}
 use Rattle.safety.proofs.Quorums.{Most, shared, someone, most-map}
@@ -23,7 +24,7 @@ pub record Came (l : Log) (k x s : ℕ) : Type 0 where
   pub old : ℕ
   pub sequence : List ℕ
   pub stamp : ℕ
-  pub value : ℕ
+  pub value : Value
   pub entry : l ∋ enter k old x sequence stamp value
   pub low : stamp ≤ s
 
@@ -32,7 +33,7 @@ pub record Reached (l : Log) (v s k : ℕ) : Type 0 where
   pub desk : ℕ
   pub try : ℕ
   pub stamp : ℕ
-  pub value : ℕ
+  pub value : Value
   pub sent : l ∋ reply k desk try v stamp value
   pub high : s ≤ stamp
 
@@ -41,10 +42,10 @@ reached-later p r = record { desk = r .desk; try = r .try; stamp = r .stamp; val
 
 -- k left v: it handed on from there, or was seen in a view beyond
 pub data Left (l : Log) (v k : ℕ) : Type 0 where
-  handed-on : {o w s y : ℕ} → l ∋ state k v o w s y → Inside v w → Left l v k
-  moved-on : {x s y : ℕ} → Shown l k x s y → Inside v x → Left l v k
+  handed-on : {o w s : ℕ} {y : Value} → l ∋ state k v o w s y → Inside v w → Left l v k
+  moved-on : {x s : ℕ} {y : Value} → Shown l k x s y → Inside v x → Left l v k
 
-shown-later : {t l : Log} {k v s y : ℕ} → Past t l → Shown l k v s y → Shown t k v s y
+shown-later : {t l : Log} {k v s : ℕ} {y : Value} → Past t l → Shown l k v s y → Shown t k v s y
 shown-later p (by-enter m) = by-enter (past-has p m)
 shown-later p (by-reply m) = by-reply (past-has p m)
 
@@ -76,16 +77,16 @@ module _ {C : Setting} {t : Log} (S : Sound C t) where
         go (inl d) = i .other (sym (e ∙ d))
         go (inr j) = inside-irrefl (inside-trans j (inside-eq i e))
 
-    active-came : {l : Log} {k x s : ℕ} → Past t l → Inside v x → Active C l k x → ((r y : ℕ) → Shown l k x r y → r ≤ s) → Came l k x s
+    active-came : {l : Log} {k x s : ℕ} → Past t l → Inside v x → Active C l k x → ((r : ℕ) (y : Value) → Shown l k x r y → r ≤ s) → Came l k x s
     active-came p i (active-start e) h = absurd (not-start i e)
     active-came p i (active-enter m u) h = record { old = _; sequence = _; stamp = _; value = _; entry = m; low = h _ _ (by-enter m) }
 
-    pub came : {l : Log} {k x s y : ℕ} → Past t l → Inside v x → Has C l k x s y → Came l k x s
+    pub came : {l : Log} {k x s : ℕ} {y : Value} → Past t l → Inside v x → Has C l k x s y → Came l k x s
     came p i (has-start e f g) = absurd (not-start i e)
     came p i (has-shown (by-enter m)) = record { old = _; sequence = _; stamp = _; value = _; entry = m; low = omega arith }
     came {l} {k} {x} {s} p i (has-shown (by-reply m)) = go (why (sound-past S p) m)
       where
-        go : {d n y : ℕ} → Why C l (reply k d n x s y) → Came l k x s
+        go : {d n : ℕ} {y : Value} → Why C l (reply k d n x s y) → Came l k x s
         go w =
             let c = active-came (back (past-trans p (w .past))) i (w .is .active) (λ r y h. low r (w .is .current x r y h)) in
             record { old = c .old; sequence = c .sequence; stamp = c .stamp; value = c .value; entry = past-has (back (w .past)) (c .entry); low = c .low }
@@ -96,7 +97,7 @@ module _ {C : Setting} {t : Log} (S : Sound C t) where
 
   module _ {v : ℕ} (L : Live v) where
     -- a view beyond v is entered from v, or from beyond v
-    from : {l : Log} {o w s y : ℕ} {q : List ℕ} → Past t l → Enter C l o w q s y → Inside v w → (o ≡ v) ⊎ Inside v o
+    from : {l : Log} {o w s : ℕ} {y : Value} {q : List ℕ} → Past t l → Enter C l o w q s y → Inside v w → (o ≡ v) ⊎ Inside v o
     from {o = o} {q = q} p e i = go (comparable (facts S .entered raised) (L .entered))
       where
         raised : t ∋ raise o q
@@ -115,13 +116,13 @@ module _ {C : Setting} {t : Log} (S : Sound C t) where
     module _ {s : ℕ} (st : Most C v (Reached t v s)) where
       -- by a log of the past, all who entered a view beyond v came with that stamp
       abbrev Kept : Log → Type 0
-      Kept l = (k o w : ℕ) (q : List ℕ) (r y : ℕ) → l ∋ enter k o w q r y → Inside v w → s ≤ r
+      Kept l = (k o w : ℕ) (q : List ℕ) (r : ℕ) (y : Value) → l ∋ enter k o w q r y → Inside v w → s ≤ r
 
-      has-kept : {l : Log} {k x r y : ℕ} → Past t l → Kept l → Inside v x → Has C l k x r y → s ≤ r
+      has-kept : {l : Log} {k x r : ℕ} {y : Value} → Past t l → Kept l → Inside v x → Has C l k x r y → s ≤ r
       has-kept p h i a = let c = came (L .entered) p i a in omega (arith, h _ _ _ _ _ _ (c .entry) i, c .low)
 
       -- a relay hands on from v after all its answers in v
-      hands-kept : {l : Log} {k o w r y : ℕ} → Past t (state k v o w r y ∷ l) → Inside v w → Reached t v s k → s ≤ r
+      hands-kept : {l : Log} {k o w r : ℕ} {y : Value} → Past t (state k v o w r y ∷ l) → Inside v w → Reached t v s k → s ≤ r
       hands-kept {l} {k} {o} {w} {r} {y} p i a = go (why S (a .sent) .past) (places (why S (a .sent) .past) p)
         where
           low : Inside v v ⊎ ((v ≡ v) × (a .stamp ≤ r)) → s ≤ r
@@ -135,14 +136,14 @@ module _ {C : Setting} {t : Log} (S : Sound C t) where
           go z (later h) = absurd (justified S z .going o w r y (here h) i)
 
       -- so what is handed on from v by one who had reached the stamp, or from beyond v, has it
-      state-kept : {l : Log} {k x w r y : ℕ} → Past t (state k x v w r y ∷ l) → Kept l → Inside v w → Reached t v s k → s ≤ r
+      state-kept : {l : Log} {k x w r : ℕ} {y : Value} → Past t (state k x v w r y ∷ l) → Kept l → Inside v w → Reached t v s k → s ≤ r
       state-kept {l} {k} {x} {w} {r} {y} p h i a = go (justified S p .reached)
         where
           go : (x ≡ v) ⊎ Inside v x → s ≤ r
           go (inl e) = hands-kept (subst (λ (z : ℕ). Past t (state k z v w r y ∷ l)) e p) i a
           go (inr j) = has-kept (back p) h j (justified S p .has)
 
-      kept-step : {l : Log} {o w r y : ℕ} {q : List ℕ} → Past t l → Kept l → Enter C l o w q r y → Inside v w → s ≤ r
+      kept-step : {l : Log} {o w r : ℕ} {y : Value} {q : List ℕ} → Past t l → Kept l → Enter C l o w q r y → Inside v w → s ≤ r
       kept-step {l} {o} {w} {r} {y} p h e i = go (from p e i)
         where
           earlier-kept : {m : Log} → Past l m → Kept m
@@ -158,13 +159,13 @@ module _ {C : Setting} {t : Log} (S : Sound C t) where
               let n = why (sound-past S p) (g .sent) in
               omega (arith, g .low, has-kept (back (past-trans p (n .past))) (earlier-kept (back (n .past))) (beyond j (n .is .reached)) (n .is .has))
 
-      pub kept : (l : Log) → Past t l → (k o w : ℕ) (q : List ℕ) (r y : ℕ) → l ∋ enter k o w q r y → Inside v w → s ≤ r
+      pub kept : (l : Log) → Past t l → (k o w : ℕ) (q : List ℕ) (r : ℕ) (y : Value) → l ∋ enter k o w q r y → Inside v w → s ≤ r
       kept [] p k o w q r y m i = absurd (List·Memᴰ·not-nil m)
       kept (e ∷ l) p k o w q r y (List·Memᴰ·tail m) i = kept l (back p) k o w q r y m i
       kept (e ∷ l) p k o w q r y (List·Memᴰ·head d) i = kept-step (back p) (kept l (back p)) (because S p d) i
 
     -- ---- who left v
-    state-left : {l : Log} {k x w r y : ℕ} → Past t l → Inside v w → l ∋ state k x v w r y → Left l v k
+    state-left : {l : Log} {k x w r : ℕ} {y : Value} → Past t l → Inside v w → l ∋ state k x v w r y → Left l v k
     state-left {l} {k} {x} {w} {r} {y} p i m = go (why (sound-past S p) m)
       where
         has-left : {n : Log} → Past l n → Inside v x → Has C n k x r y → Left l v k
@@ -179,12 +180,12 @@ module _ {C : Setting} {t : Log} (S : Sound C t) where
             pick (inr j) = has-left (back (n .past)) j (n .is .has)
 
     abbrev Closed : Log → Type 0
-    Closed l = (k o w : ℕ) (q : List ℕ) (r y : ℕ) → l ∋ enter k o w q r y → Inside v w → Most C v (Left l v)
+    Closed l = (k o w : ℕ) (q : List ℕ) (r : ℕ) (y : Value) → l ∋ enter k o w q r y → Inside v w → Most C v (Left l v)
 
-    closed-step : {l : Log} {o w r y : ℕ} {q : List ℕ} → Past t l → Closed l → Enter C l o w q r y → Inside v w → Most C v (Left l v)
+    closed-step : {l : Log} {o w r : ℕ} {y : Value} {q : List ℕ} → Past t l → Closed l → Enter C l o w q r y → Inside v w → Most C v (Left l v)
     closed-step {l} {o} {w} {r} {y} p h e i = go (from p e i)
       where
-        far : {m : Log} {k x s y : ℕ} → Past l m → Inside v x → Has C m k x s y → Most C v (Left l v)
+        far : {m : Log} {k x s : ℕ} {y : Value} → Past l m → Inside v x → Has C m k x s y → Most C v (Left l v)
         far z j a = let c = came (L .entered) (past-trans p z) j a in h _ _ _ _ _ _ (past-has z (c .entry)) j
 
         go : (o ≡ v) ⊎ Inside v o → Most C v (Left l v)
@@ -194,13 +195,13 @@ module _ {C : Setting} {t : Log} (S : Sound C t) where
             let n = why (sound-past S p) (g .sent) in
             far (back (n .past)) (beyond j (n .is .reached)) (n .is .has)
 
-    pub closed : (l : Log) → Past t l → (k o w : ℕ) (q : List ℕ) (r y : ℕ) → l ∋ enter k o w q r y → Inside v w → Most C v (Left l v)
+    pub closed : (l : Log) → Past t l → (k o w : ℕ) (q : List ℕ) (r : ℕ) (y : Value) → l ∋ enter k o w q r y → Inside v w → Most C v (Left l v)
     closed [] p k o w q r y m i = absurd (List·Memᴰ·not-nil m)
     closed (e ∷ l) p k o w q r y (List·Memᴰ·tail m) i = most-map (λ j h. left-later (back now) h) (closed l (back p) k o w q r y m i)
     closed (e ∷ l) p k o w q r y (List·Memᴰ·head d) i = most-map (λ j h. left-later (back now) h) (closed-step (back p) (closed l (back p)) (because S p d) i)
 
   -- who left v does not answer there
-  silent : {l : Log} {k d n v s y : ℕ} → Past t (reply k d n v s y ∷ l) → Left l v k → ⊥
+  silent : {l : Log} {k d n v s : ℕ} {y : Value} → Past t (reply k d n v s y ∷ l) → Left l v k → ⊥
   silent p (handed-on m i) = justified S p .going _ _ _ _ m i
   silent {v = v} p (moved-on {x = x} {s = r} h i) = go (justified S p .current _ _ _ h)
     where
@@ -215,7 +216,7 @@ module _ {C : Setting} {t : Log} (S : Sound C t) where
     pub desk : ℕ
     pub try : ℕ
     pub stamp : ℕ
-    pub value : ℕ
+    pub value : Value
     pub before : Log
     pub past : Past t (reply k desk try v stamp value ∷ before)
     pub after : Past before l

@@ -11,7 +11,7 @@ use lib.ListN.{List·getD-eq-default}
 use borrow.Author.Tests.{ltb-true, ltb-false}
 use Rattle.views.specs.Choice.{if_then_else_}
 use Rattle.views.proofs.Truth.{contrary, cases}
-use Rattle.rules.specs.Stamps.{Pair, zeroPair}
+use Rattle.rules.specs.Stamps.{Value, Pair, zeroPair, isValue}
 use Rattle.rules.specs.Messages.{Message, outgoing, Event, nothing, Answer, refused, does}
 use Rattle.rules.specs.State.{Place, free, waiting, World, crashedRelay, crashedDesk, noDesk, relayAt, deskAt, placeAt}
 use Rattle.rules.specs.declared.Desk.{Desk}
@@ -46,7 +46,7 @@ read-silent : (d : Desk) → Silent (readAsked d)
 unfolding readAsked
 read-silent d = cases Silent (isIdle (d .phase)) (λ e. begins-silent d Read1 (d .view) zeroPair) (λ e. tt)
 
-write-silent : (d : Desk) (x : ℕ) → Silent (writeAsked d x)
+write-silent : (d : Desk) (x : Value) → Silent (writeAsked d x)
 unfolding writeAsked
 write-silent d x = cases Silent (isIdle (d .phase)) (λ e. begins-silent d Write1 (d .view) (record { stamp = zeroPair .stamp; value = x })) (λ e. tt)
 
@@ -97,7 +97,7 @@ fits k =
     (λ _. cases Fits (is k 2 8) (is-small k 2 8)
     (λ _. cases Fits (is k 3 8) (is-small k 3 8)
     (λ _. cases Fits (is k 4 4) (is-small k 4 4)
-    (λ _. cases Fits (eqb (k .kind) 5 && (ltb (k .id) 4 && ltb (k .value) 4294967296))
+    (λ _. cases Fits (eqb (k .kind) 5 && (ltb (k .id) 4 && isValue (k .value)))
     (λ e. ltb-true (k .id) 4 (and-eq-true-iff (ltb (k .id) 4) _ .0 (and-eq-true-iff (eqb (k .kind) 5) _ .0 e .1) .0))
     (λ _. cases Fits (is k 6 256) (λ e. tt)
     (λ _. cases Fits (is k 7 256) (λ e. tt)

@@ -9,6 +9,7 @@ use lib.ListN.{length, getD}
 use Rattle.views.specs.Chain.{leastOf, lacksOf}
 use Rattle.views.specs.View.{bitOf}
 use Rattle.views.proofs.Nested.{Above as Rising}
+use Rattle.rules.specs.Stamps.{Value}
 use Rattle.rules.specs.Messages.{Body, request, view, proposal, converged, install, state as stateSays, get as getSays, put as putSays, viewReply, pairReply, ack, Sending}
 use Rattle.rules.specs.State.{Generator, Transfer, Relay, Place, free, waiting, World, relayAt, deskAt}
 use Rattle.rules.specs.declared.Desk.{Desk}
@@ -69,11 +70,11 @@ pub record Firsts (l : Log) (n : ℕ) (d : Desk) : Type 0 where
   pub notes : Notes (Replies l n (d .tries) (d .view)) (d .replied) (num (d .best .stamp)) (d .best .value)
   pub small : Small (d .best)
   pub clean : d .replied ≡ 0 → num (d .best .stamp) ≡ 0
-  pub agreed : d .agreed ≡ true → (k : ℕ) → bitOf (d .replied) k ≡ true → (z : ℕ) × (l ∋ reply k n (d .tries) (d .view) (num (d .best .stamp)) z)
+  pub agreed : d .agreed ≡ true → (k : ℕ) → bitOf (d .replied) k ≡ true → (z : Value) × (l ∋ reply k n (d .tries) (d .view) (num (d .best .stamp)) z)
 
 -- phase 2 of the settled operation o: who acknowledged
 pub record Acks (l : Log) (n : ℕ) (d : Desk) (o : Op) : Type 0 where
-  pub each : (k : ℕ) → bitOf (d .replied) k ≡ true → (s : ℕ) × (z : ℕ) × (l ∋ reply k n (d .tries) (d .view) s z)
+  pub each : (k : ℕ) → bitOf (d .replied) k ≡ true → (s : ℕ) × (z : Value) × (l ∋ reply k n (d .tries) (d .view) s z)
   pub stamp-is : o .stamp ≡ num (d .holds .stamp)
   pub value-is : o .value ≡ d .holds .value
   pub small : Small (d .holds)
@@ -103,7 +104,7 @@ Backed l from to (getSays t c) = (d : ℕ) × (n : ℕ) × (from ≡ 8 + d) × (
 Backed l from to (putSays t c p) = (d : ℕ) × (n : ℕ) × (from ≡ 8 + d) × (l ∋ ask d t n c (put (num (p .stamp)) (p .value))) × Small p
 Backed l from to (viewReply t v) = Unit {0}
 Backed l from to (pairReply t p) = (d : ℕ) × (v : ℕ) × (to ≡ 8 + d) × (l ∋ reply from d t v (num (p .stamp)) (p .value)) × Small p
-Backed l from to (ack t) = (d : ℕ) × (v : ℕ) × (to ≡ 8 + d) × (s : ℕ) × (y : ℕ) × (l ∋ reply from d t v s y)
+Backed l from to (ack t) = (d : ℕ) × (v : ℕ) × (to ≡ 8 + d) × (s : ℕ) × (y : Value) × (l ∋ reply from d t v s y)
 
 -- what is sent, to each of its receivers
 abbrev pub SendingBacked : Log → ℕ → Sending → Type 0

@@ -6,6 +6,7 @@ use Prim.Native.Nat.{ℕ, zero, suc, _+_, _<_}
 use native.Mathlib.Omega.{arith}
 use native.Mathlib.Decide.{decLt}
 use lib.ListN.{length, getD}
+use Rattle.rules.specs.Stamps.{Value}
 use Rattle.rules.specs.State.{World, noDesk, deskAt}
 use Rattle.rules.specs.declared.Desk.{Desk}
 use Rattle.rules.specs.declared.Phase.{Phase}
@@ -113,7 +114,7 @@ module _ {old : Log} {C : Setting} {i : ℕ} {w : World} {ts : List Told} {ops :
       (let e : o .desk ≡ 0 + o .desk = omega arith in subst (λ (x : ℕ). named o ∈ unfinishedBy ts x (deskAt w (o .desk) .phase) (deskAt w (o .desk) .holds)) e (go (D .phased) (D .facts) z))))
       (λ z. inl (done-finish s z)) (D .facts .done (o .try) (o .task) b)
     where
-      read : {a : Task} → a ≡ reading → (y : ℕ) × (a ≡ writing y) → ⊥
+      read : {a : Task} → a ≡ reading → (y : Value) × (a ≡ writing y) → ⊥
       read e f = let z : _≡_ {A = ℕ} 0 1 = cc (f .1) in omega arith
 
       same : {q : Op} {t u : ℕ} → Doing (R .log) (o .desk) t u (putting q) → q .try ≡ o .try → q ≡ o

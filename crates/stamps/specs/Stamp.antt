@@ -31,6 +31,13 @@ sameOf a b = equals (comparedOf a b) 0
 unfoldable pub greatestOf : Pair → Pair → Pair
 greatestOf held new = cond (greaterOf (new .stamp) (held .stamp)) new held
 
+-- "A value is an unsigned 32-bit number."
+abbrev pub Value : Type 0
+Value = ℕ
+
 -- "Fresh record: stamp (0,0), value 0."
+abbrev pub noValue : Value
+noValue = 0
+
 abbrev pub freshPair : Pair
-freshPair = record { stamp = record { count = 0; desk = 0 }; value = 0 }
+freshPair = record { stamp = record { count = 0; desk = 0 }; value = noValue }
