@@ -36,14 +36,7 @@ fn other_names(w: &[u8], at: usize, i: usize, generators: bool, width: usize) ->
 }
 
 // The row at place i names another than those before it, and is good.
-fn good_place(
-    w: &[u8],
-    s: u8,
-    at: usize,
-    i: usize,
-    generators: bool,
-    width: usize,
-) -> bool
+fn good_place(w: &[u8], s: u8, at: usize, i: usize, generators: bool, width: usize) -> bool
     requires { ⌜ (at + generatorsWidth ≤ length (now w)) × ((width ≤ generatorWidth) × (i < seatCount)) ⌝ }
     ensures { λ r. ⌜ r ≡ placeFilled generators width (now (w .entry)) s at i ⌝ }
 {

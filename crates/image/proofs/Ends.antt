@@ -78,8 +78,14 @@ module _ {l : List ℕ} {i j : ℕ} (h : Alike l i j) where
   pub transfer-alike : transferRowAt l i ≡ transferRowAt l j
   unfolding transferRowAt
   transfer-alike =
-      cc (number-alike h u16Width, u16-alike h transferNew, sequence-alike (on h transferSequence), h .byte transferSenders, pair-alike (on h transferBest),
-      u16-alike h transferGathered)
+      cc (
+        number-alike h u16Width,
+        u16-alike h transferNew,
+        sequence-alike (on h transferSequence),
+        h .byte transferSenders,
+        pair-alike (on h transferBest),
+        u16-alike h transferGathered,
+      )
 
   pub desk-alike : deskAt l i ≡ deskAt l j
   unfolding deskAt
@@ -98,5 +104,14 @@ module _ {l : List ℕ} {i j : ℕ} (h : Alike l i j) where
   pub message-alike : messageRowAt l i ≡ messageRowAt l j
   unfolding messageRowAt
   message-alike =
-      cc (first h, h .byte messageFrom, h .byte messageTo, u16-alike h messageFirst, u16-alike h messageSecond, u16-alike h messageTries,
-      sequence-alike (on h messageSequence), pair-alike (on h messagePair), u16-alike h messageUpdates)
+      cc (
+        first h,
+        h .byte messageFrom,
+        h .byte messageTo,
+        u16-alike h messageFirst,
+        u16-alike h messageSecond,
+        u16-alike h messageTries,
+        sequence-alike (on h messageSequence),
+        pair-alike (on h messagePair),
+        u16-alike h messageUpdates,
+      )

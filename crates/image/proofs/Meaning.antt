@@ -26,6 +26,7 @@ taken-alike n m f g h =
   where
     long : (e : ℕ → ℕ) → length (take m (tab n e)) ≡ min m n
     long e = length-take m (tab n e) ∙ ap (min m) (length-tab n e)
+
     at : (e : ℕ → ℕ) (k : ℕ) → k < min m n → getD (take m (tab n e)) k 0 ≡ e k
     at e k p = getD-take m (tab n e) k 0 (omega arith) ∙ getD-tab n k e 0 (omega arith)
 

@@ -98,7 +98,18 @@ pub fn put_head(s: &mut [u8], at: usize, h: Head)
     ensures { λ _. ⌜ now (s .exit) ≡ placed (now (s .entry)) at (headBytes (relayOf h [] [])) ⌝ }
 {
     let holds = h.holds;
-    let widths = [BYTE, BYTE, BYTE, U16, U16, U16, U16, BYTE, U32, layout::HEAD_REST];
+    let widths = [
+        BYTE,
+        BYTE,
+        BYTE,
+        U16,
+        U16,
+        U16,
+        U16,
+        BYTE,
+        U32,
+        layout::HEAD_REST,
+    ];
     let xs = [
         h.alive as u32,
         h.entered as u32,

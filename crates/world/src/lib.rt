@@ -128,7 +128,11 @@ fn desk_commits(w: &mut [u8], n: u8, p: usize, plan: DeskPlan) -> Answer
     if !reads::has_room(w, p, first.receivers, 0) {
         return refuses(rules::NO_ROOM);
     }
-    image::put_desk(w, layout::WORLD_DESKS + n as usize * layout::DESK_WIDTH, desk);
+    image::put_desk(
+        w,
+        layout::WORLD_DESKS + n as usize * layout::DESK_WIDTH,
+        desk,
+    );
     writes::free(w, p);
     writes::send(w, 8 + n, first);
     tells(event, n)

@@ -195,10 +195,22 @@ pub(crate) fn part_at(w: &[u8], s: u8, v: u16, o: u16, n: u16) -> Part
     let at = s as usize * layout::RELAY_WIDTH;
     let head = image::head_at(w, at);
     let i = generator_seat(w, at + layout::RELAY_GENERATORS, v);
-    let generates = is_filled(w, i, at + layout::RELAY_GENERATORS + i * layout::GENERATOR_WIDTH);
-    let generator = generator_in(w, at + layout::RELAY_GENERATORS + i * layout::GENERATOR_WIDTH, generates);
+    let generates = is_filled(
+        w,
+        i,
+        at + layout::RELAY_GENERATORS + i * layout::GENERATOR_WIDTH,
+    );
+    let generator = generator_in(
+        w,
+        at + layout::RELAY_GENERATORS + i * layout::GENERATOR_WIDTH,
+        generates,
+    );
     let j = transfer_seat(w, at + layout::RELAY_TRANSFERS, o, n);
-    let transfers = is_filled(w, j, at + layout::RELAY_TRANSFERS + j * layout::TRANSFER_WIDTH + layout::TRANSFER_NEW);
+    let transfers = is_filled(
+        w,
+        j,
+        at + layout::RELAY_TRANSFERS + j * layout::TRANSFER_WIDTH + layout::TRANSFER_NEW,
+    );
     let transfer = image::transfer_at(w, at + layout::RELAY_TRANSFERS + j * layout::TRANSFER_WIDTH);
     Part {
         head: head,

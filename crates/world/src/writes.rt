@@ -30,7 +30,11 @@ pub(crate) fn free(w: &mut [u8], p: usize)
     if 256 <= p {
         return;
     }
-    rows::clear(w, layout::WORLD_PLACES + p * layout::MESSAGE_WIDTH, layout::MESSAGE_WIDTH);
+    rows::clear(
+        w,
+        layout::WORLD_PLACES + p * layout::MESSAGE_WIDTH,
+        layout::MESSAGE_WIDTH,
+    );
 }
 
 // "A new message takes the lowest free place", and none below `low` is free; none below the result is free afterwards.
@@ -138,7 +142,11 @@ fn put_transfers(w: &mut [u8], s: u8, part: Part)
     }
     let t = part.transfer;
     let i = super::reads::transfer_seat(w, at + layout::RELAY_TRANSFERS, t.old, t.new);
-    image::put_transfer(w, at + layout::RELAY_TRANSFERS + i * layout::TRANSFER_WIDTH, t);
+    image::put_transfer(
+        w,
+        at + layout::RELAY_TRANSFERS + i * layout::TRANSFER_WIDTH,
+        t,
+    );
 }
 
 // ---- a relay
@@ -159,5 +167,9 @@ pub(crate) fn put_part(w: &mut [u8], s: u8, part: Part)
     if !part.generates {
         return;
     }
-    image::put_generator(w, at + layout::RELAY_GENERATORS + i * layout::GENERATOR_WIDTH, g);
+    image::put_generator(
+        w,
+        at + layout::RELAY_GENERATORS + i * layout::GENERATOR_WIDTH,
+        g,
+    );
 }

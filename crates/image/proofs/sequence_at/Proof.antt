@@ -31,7 +31,6 @@ zero-at (suc n) (suc k) = zero-at n k
 none : (f : ℕ → ℕ) → Begun f 0 (replicate 15 0)
 none f = record { filled = fill-none refl; blank = λ k p. zero-at 15 k }
 
-
 more : {f : ℕ → ℕ} {i x : ℕ} {l : List ℕ} → Begun f i l → i < 15 → x ≡ f i → Begun f (i + 1) (set l i x)
 more {f} {i} {x} {l} h b e =
     record { filled = fill-more (h .filled) b e; blank = λ k p. getD-set-other l i k x 0 (omega arith) ∙ h .blank k (omega arith) }
@@ -43,6 +42,7 @@ whole len {f} {i} {l} h e =
   where
     g : ℕ → ℕ
     g k = if ltb k len then f k else 0
+
     at : (k : ℕ) → k < 15 → getD l k 0 ≡ g k
     at k p =
         cases (λ (x : ℕ). getD l k 0 ≡ x) (ltb k len)
