@@ -291,21 +291,21 @@ fn ack_came(n: u8, d: Desk, from: u8) -> DeskPlan
     counted(n, notes_ack(d, from))
 }
 
-// What comes to the desk n. The kinds 1 to 8 are no replies; a number that is no kind says what 11 says.
+// What comes to the desk n. The kinds from request to put are no replies; a number that is no kind is an acknowledgement.
 pub fn hears(n: u8, d: Desk, from: u8, b: Body) -> DeskPlan
     ensures { λ r. ⌜ deskPlanOf r ≡ planned noDesk (rule.deskHears n d from (bodyOf b)) ⌝ }
 {
     let kind = b.kind;
-    if (1 <= kind) & (kind <= 8) {
+    if (layout::REQUEST <= kind) & (kind <= layout::PUT) {
         return does_nothing(d);
     }
     if !current(d, from, b.tries) {
         return does_nothing(d);
     }
-    if kind == 9 {
+    if kind == layout::VIEW_REPLY {
         return view_came(d, b.first);
     }
-    if kind == 10 {
+    if kind == layout::PAIR_REPLY {
         let p = b.pair;
         return pair_came(n, d, from, p);
     }

@@ -217,10 +217,10 @@ fn good_place_row(w: &[u8], at: usize) -> bool
     ensures { λ r. ⌜ r ≡ placeGood (now (w .entry)) at ⌝ }
 {
     let kind = rows::byte_at(w, at);
-    if kind == 0 {
+    if kind == layout::NO_KIND {
         return rows::is_zero(w, at, layout::MESSAGE_WIDTH);
     }
-    if 11 < kind {
+    if layout::ACK < kind {
         return false;
     }
     let m = image::message_at(w, at);

@@ -20,7 +20,9 @@ use Rattle.layout.specs.Layout.{headHolds, headRest, generatorOwn, gener
 use Rattle.layout.specs.Layout.{generatorWidth, generatorRest, transferNew, transferSequence, transferSenders, transferBest, transferGathered}
 use Rattle.layout.specs.Layout.{transferWidth, transferRest, relayGenerators, relayTransfers, deskPhase, deskView, deskTries, deskHolds, deskReplied}
 use Rattle.layout.specs.Layout.{deskBest, deskAgreed, deskRest, messageFrom, messageTo, messageFirst, messageSecond, messageTries, messageSequence}
-use Rattle.layout.specs.Layout.{messagePair, messageUpdates, messageRest, worldWidth, worldRest, relayBegin, deskBegin, placeBegin}
+use Rattle.layout.specs.Layout.{messagePair, messageUpdates, messageRest, noKind, requestKind, viewKind, proposalKind, convergedKind, installKind}
+use Rattle.layout.specs.Layout.{stateKind, getKind, putKind, viewReplyKind, pairReplyKind, ackKind, worldWidth, worldRest, relayBegin, deskBegin}
+use Rattle.layout.specs.Layout.{placeBegin}
 
 -- ---- a state in bytes
 
@@ -123,20 +125,20 @@ row kind from to first second tries q p u =
     record { kind = kind; from = from; to = to; first = first; second = second; tries = tries; sequence = q; pair = p; updates = u }
 
 abbrev pub bodyRow : ℕ → ℕ → Body → Row
-bodyRow s r (request u c) = row 1 s r c 0 0 [] zeroPair u
-bodyRow s r (view v) = row 2 s r v 0 0 [] zeroPair 0
-bodyRow s r (proposal v q) = row 3 s r v 0 0 q zeroPair 0
-bodyRow s r (converged v q) = row 4 s r v 0 0 q zeroPair 0
-bodyRow s r (install o w q) = row 5 s r o w 0 q zeroPair 0
-bodyRow s r (state o w p u) = row 6 s r o w 0 [] p u
-bodyRow s r (get try c) = row 7 s r c 0 try [] zeroPair 0
-bodyRow s r (put try c p) = row 8 s r c 0 try [] p 0
-bodyRow s r (viewReply try v) = row 9 s r v 0 try [] zeroPair 0
-bodyRow s r (pairReply try p) = row 10 s r 0 0 try [] p 0
-bodyRow s r (ack try) = row 11 s r 0 0 try [] zeroPair 0
+bodyRow s r (request u c) = row requestKind s r c 0 0 [] zeroPair u
+bodyRow s r (view v) = row viewKind s r v 0 0 [] zeroPair 0
+bodyRow s r (proposal v q) = row proposalKind s r v 0 0 q zeroPair 0
+bodyRow s r (converged v q) = row convergedKind s r v 0 0 q zeroPair 0
+bodyRow s r (install o w q) = row installKind s r o w 0 q zeroPair 0
+bodyRow s r (state o w p u) = row stateKind s r o w 0 [] p u
+bodyRow s r (get try c) = row getKind s r c 0 try [] zeroPair 0
+bodyRow s r (put try c p) = row putKind s r c 0 try [] p 0
+bodyRow s r (viewReply try v) = row viewReplyKind s r v 0 try [] zeroPair 0
+bodyRow s r (pairReply try p) = row pairReplyKind s r 0 0 try [] p 0
+bodyRow s r (ack try) = row ackKind s r 0 0 try [] zeroPair 0
 
 abbrev pub placeRow : Place → Row
-placeRow free = row 0 0 0 0 0 0 [] zeroPair 0
+placeRow free = row noKind 0 0 0 0 0 [] zeroPair 0
 placeRow (waiting m) = bodyRow (m .from) (m .to) (m .body)
 
 abbrev pub rowFields : Row → List (List ℕ)
@@ -242,29 +244,29 @@ rowAt b i =
     (u16At b (i + messageFirst)) (u16At b (i + messageSecond)) (u16At b (i + messageTries))
     (sequenceAt b (i + messageSequence)) (pairAt b (i + messagePair)) (u16At b (i + messageUpdates))
 
--- what a row of a kind 7 to 11 says: those have a try
+-- what a row of a kind from get to ack says: those have a try
 abbrev pub tryIn : Row → Body
 tryIn m =
-    if eqb (m .kind) 7 then get (m .tries) (m .first)
-    else if eqb (m .kind) 8 then put (m .tries) (m .first) (m .pair)
-    else if eqb (m .kind) 9 then viewReply (m .tries) (m .first)
-    else if eqb (m .kind) 10 then pairReply (m .tries) (m .pair)
+    if eqb (m .kind) getKind then get (m .tries) (m .first)
+    else if eqb (m .kind) putKind then put (m .tries) (m .first) (m .pair)
+    else if eqb (m .kind) viewReplyKind then viewReply (m .tries) (m .first)
+    else if eqb (m .kind) pairReplyKind then pairReply (m .tries) (m .pair)
     else ack (m .tries)
 
--- what a row of a kind 1 to 11 says
+-- what a row of any kind says
 unfoldable pub bodyIn : Row → Body
 bodyIn m =
-    if eqb (m .kind) 1 then request (m .updates) (m .first)
-    else if eqb (m .kind) 2 then view (m .first)
-    else if eqb (m .kind) 3 then proposal (m .first) (m .sequence)
-    else if eqb (m .kind) 4 then converged (m .first) (m .sequence)
-    else if eqb (m .kind) 5 then install (m .first) (m .second) (m .sequence)
-    else if eqb (m .kind) 6 then state (m .first) (m .second) (m .pair) (m .updates)
+    if eqb (m .kind) requestKind then request (m .updates) (m .first)
+    else if eqb (m .kind) viewKind then view (m .first)
+    else if eqb (m .kind) proposalKind then proposal (m .first) (m .sequence)
+    else if eqb (m .kind) convergedKind then converged (m .first) (m .sequence)
+    else if eqb (m .kind) installKind then install (m .first) (m .second) (m .sequence)
+    else if eqb (m .kind) stateKind then state (m .first) (m .second) (m .pair) (m .updates)
     else tryIn m
 
 unfoldable pub placeIn : Row → Place
 placeIn m =
-    if leb 1 (m .kind) && leb (m .kind) 11
+    if leb requestKind (m .kind) && leb (m .kind) ackKind
     then waiting (record { from = m .from; to = m .to; body = bodyIn m })
     else free
 

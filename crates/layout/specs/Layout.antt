@@ -225,6 +225,44 @@ messageWidth = 80
 abbrev pub messageRest : ℕ
 messageRest = messageWidth - messageZeros
 
+-- ---- The kinds of messages, as a row numbers them
+
+abbrev pub noKind : ℕ
+noKind = 0
+
+abbrev pub requestKind : ℕ
+requestKind = 1
+
+abbrev pub viewKind : ℕ
+viewKind = 2
+
+abbrev pub proposalKind : ℕ
+proposalKind = 3
+
+abbrev pub convergedKind : ℕ
+convergedKind = 4
+
+abbrev pub installKind : ℕ
+installKind = 5
+
+abbrev pub stateKind : ℕ
+stateKind = 6
+
+abbrev pub getKind : ℕ
+getKind = 7
+
+abbrev pub putKind : ℕ
+putKind = 8
+
+abbrev pub viewReplyKind : ℕ
+viewReplyKind = 9
+
+abbrev pub pairReplyKind : ℕ
+pairReplyKind = 10
+
+abbrev pub ackKind : ℕ
+ackKind = 11
+
 -- ---- "One lent buffer of exactly 65,536 bytes": 8 relays, 4 desks, 256 messages, zeros
 
 abbrev pub worldRelays : ℕ

@@ -161,6 +161,32 @@ pub const MESSAGE_WIDTH: usize = 80;
 
 pub const MESSAGE_REST: u8 = (MESSAGE_WIDTH - MESSAGE_ZEROS) as u8;
 
+// ---- The kinds of messages, as a row numbers them
+
+pub const NO_KIND: u8 = 0;
+
+pub const REQUEST: u8 = 1;
+
+pub const VIEW: u8 = 2;
+
+pub const PROPOSAL: u8 = 3;
+
+pub const CONVERGED: u8 = 4;
+
+pub const INSTALL: u8 = 5;
+
+pub const STATE: u8 = 6;
+
+pub const GET: u8 = 7;
+
+pub const PUT: u8 = 8;
+
+pub const VIEW_REPLY: u8 = 9;
+
+pub const PAIR_REPLY: u8 = 10;
+
+pub const ACK: u8 = 11;
+
 // ---- "One lent buffer of exactly 65,536 bytes": 8 relays, 4 desks, 256 messages, zeros
 
 pub const WORLD_RELAYS: usize = 0;

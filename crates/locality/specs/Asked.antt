@@ -7,15 +7,16 @@ use Rattle.rules.specs.Messages.{Answer, refused, does}
 use Rattle.rules.specs.State.{Relay}
 use Rattle.rules.specs.declared.Desk.{Desk}
 use Rattle.rules.specs.Relays.{joinAsked, leaveAsked, timerRang}
+use Rattle.rules.specs.Steps.{JOIN, LEAVE, WRITE}
 use Rattle.rules.specs.Desks.{readAsked, writeAsked}
 
 -- "1 JOIN relay, 2 LEAVE relay, 3 TIMER relay"
 unfoldable pub relayAsked : ℕ → ℕ → Relay → Answer Relay
-relayAsked kind s r = if eqb kind 1 then joinAsked s r else if eqb kind 2 then leaveAsked s r else timerRang r
+relayAsked kind s r = if eqb kind JOIN then joinAsked s r else if eqb kind LEAVE then leaveAsked s r else timerRang r
 
 -- "4 READ desk, 5 WRITE desk value"
 unfoldable pub deskAsked : ℕ → ℕ → Desk → Answer Desk
-deskAsked kind x d = if eqb kind 5 then writeAsked d x else readAsked d
+deskAsked kind x d = if eqb kind WRITE then writeAsked d x else readAsked d
 
 -- it sends at most two things
 unfoldable pub Few : {A : Type 0} → Answer A → Type 0

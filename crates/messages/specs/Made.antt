@@ -7,6 +7,7 @@ use Rattle.views.specs.declared.Sequence.{Sequence}
 use Rattle.rules.specs.Sets.{if_then_else_, _&&_, only}
 use Rattle.rules.specs.Stamps.{zeroPair}
 use Rattle.rules.specs.Messages as rules
+use Rattle.layout.specs.Layout.{proposalKind, installKind}
 use Rattle.layout.specs.Image.{bodyRow}
 use Rattle.state.specs.declared.Body.{Body}
 use Rattle.state.specs.declared.Sending.{Sending}
@@ -15,9 +16,9 @@ use Rattle.state.specs.declared.Sending.{Sending}
 unfoldable pub blankOf : ℕ → Body
 blankOf kind = record { kind = kind; first = 0; second = 0; tries = 0; sequence = rowOf []; pair = zeroPair; updates = 0 }
 
--- this row of views where the body says a sequence (kinds 3, 4 and 5: proposal, converged, install), the empty row where it says none
+-- this row of views where the body says a sequence (a proposal, a convergence, an install), the empty row where it says none
 abbrev pub saidBy : rules.Body → Sequence → Sequence
-saidBy x q = let kind = bodyRow 0 0 x .kind in if leb 3 kind && leb kind 5 then q else rowOf []
+saidBy x q = let kind = bodyRow 0 0 x .kind in if leb proposalKind kind && leb kind installKind then q else rowOf []
 
 -- the code's body that says this: every field as in its row of the image, the sequence as it is given
 unfoldable pub madeWith : Sequence → rules.Body → Body

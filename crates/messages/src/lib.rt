@@ -28,7 +28,7 @@ fn blank(kind: u8) -> Body
 pub fn request(u: u16, c: u16) -> Body
     ensures { λ r. ⌜ r ≡ made (rules.request u c) ⌝ }
 {
-    let mut b = blank(1);
+    let mut b = blank(layout::REQUEST);
     b.first = c;
     b.updates = u;
     b
@@ -37,7 +37,7 @@ pub fn request(u: u16, c: u16) -> Body
 pub fn view(v: u16) -> Body
     ensures { λ r. ⌜ r ≡ made (rules.view v) ⌝ }
 {
-    let mut b = blank(2);
+    let mut b = blank(layout::VIEW);
     b.first = v;
     b
 }
@@ -45,7 +45,7 @@ pub fn view(v: u16) -> Body
 pub fn proposal(v: u16, q: Sequence) -> Body
     ensures { λ r. ⌜ r ≡ madeWith q (rules.proposal v (viewsOf q)) ⌝ }
 {
-    let mut b = blank(3);
+    let mut b = blank(layout::PROPOSAL);
     b.first = v;
     b.sequence = q;
     b
@@ -54,7 +54,7 @@ pub fn proposal(v: u16, q: Sequence) -> Body
 pub fn converged(v: u16, q: Sequence) -> Body
     ensures { λ r. ⌜ r ≡ madeWith q (rules.converged v (viewsOf q)) ⌝ }
 {
-    let mut b = blank(4);
+    let mut b = blank(layout::CONVERGED);
     b.first = v;
     b.sequence = q;
     b
@@ -63,7 +63,7 @@ pub fn converged(v: u16, q: Sequence) -> Body
 pub fn install(o: u16, w: u16, q: Sequence) -> Body
     ensures { λ r. ⌜ r ≡ madeWith q (rules.install o w (viewsOf q)) ⌝ }
 {
-    let mut b = blank(5);
+    let mut b = blank(layout::INSTALL);
     b.first = o;
     b.second = w;
     b.sequence = q;
@@ -73,7 +73,7 @@ pub fn install(o: u16, w: u16, q: Sequence) -> Body
 pub fn state(o: u16, w: u16, p: Pair, updates: u16) -> Body
     ensures { λ r. ⌜ r ≡ made (rules.state o w p updates) ⌝ }
 {
-    let mut b = blank(6);
+    let mut b = blank(layout::STATE);
     b.first = o;
     b.second = w;
     b.pair = p;
@@ -84,7 +84,7 @@ pub fn state(o: u16, w: u16, p: Pair, updates: u16) -> Body
 pub fn get(tries: u16, c: u16) -> Body
     ensures { λ r. ⌜ r ≡ made (rules.get tries c) ⌝ }
 {
-    let mut b = blank(7);
+    let mut b = blank(layout::GET);
     b.tries = tries;
     b.first = c;
     b
@@ -93,7 +93,7 @@ pub fn get(tries: u16, c: u16) -> Body
 pub fn put(tries: u16, c: u16, p: Pair) -> Body
     ensures { λ r. ⌜ r ≡ made (rules.put tries c p) ⌝ }
 {
-    let mut b = blank(8);
+    let mut b = blank(layout::PUT);
     b.tries = tries;
     b.first = c;
     b.pair = p;
@@ -103,7 +103,7 @@ pub fn put(tries: u16, c: u16, p: Pair) -> Body
 pub fn view_reply(tries: u16, v: u16) -> Body
     ensures { λ r. ⌜ r ≡ made (rules.viewReply tries v) ⌝ }
 {
-    let mut b = blank(9);
+    let mut b = blank(layout::VIEW_REPLY);
     b.tries = tries;
     b.first = v;
     b
@@ -112,7 +112,7 @@ pub fn view_reply(tries: u16, v: u16) -> Body
 pub fn pair_reply(tries: u16, p: Pair) -> Body
     ensures { λ r. ⌜ r ≡ made (rules.pairReply tries p) ⌝ }
 {
-    let mut b = blank(10);
+    let mut b = blank(layout::PAIR_REPLY);
     b.tries = tries;
     b.pair = p;
     b
@@ -121,7 +121,7 @@ pub fn pair_reply(tries: u16, p: Pair) -> Body
 pub fn ack(tries: u16) -> Body
     ensures { λ r. ⌜ r ≡ made (rules.ack tries) ⌝ }
 {
-    let mut b = blank(11);
+    let mut b = blank(layout::ACK);
     b.tries = tries;
     b
 }
@@ -157,23 +157,23 @@ pub fn plain(b: Body) -> Body
     let p = b.pair;
     let none = views::empty();
     let zero = stamps::fresh();
-    if kind == 1 {
-        return says(1, b.first, 0, 0, none, zero, b.updates);
+    if kind == layout::REQUEST {
+        return says(layout::REQUEST, b.first, 0, 0, none, zero, b.updates);
     }
-    if kind == 2 {
-        return says(2, b.first, 0, 0, none, zero, 0);
+    if kind == layout::VIEW {
+        return says(layout::VIEW, b.first, 0, 0, none, zero, 0);
     }
-    if kind == 3 {
-        return says(3, b.first, 0, 0, q, zero, 0);
+    if kind == layout::PROPOSAL {
+        return says(layout::PROPOSAL, b.first, 0, 0, q, zero, 0);
     }
-    if kind == 4 {
-        return says(4, b.first, 0, 0, q, zero, 0);
+    if kind == layout::CONVERGED {
+        return says(layout::CONVERGED, b.first, 0, 0, q, zero, 0);
     }
-    if kind == 5 {
-        return says(5, b.first, b.second, 0, q, zero, 0);
+    if kind == layout::INSTALL {
+        return says(layout::INSTALL, b.first, b.second, 0, q, zero, 0);
     }
-    if kind == 6 {
-        return says(6, b.first, b.second, 0, none, p, b.updates);
+    if kind == layout::STATE {
+        return says(layout::STATE, b.first, b.second, 0, none, p, b.updates);
     }
     plain_try(b)
 }
@@ -186,19 +186,19 @@ fn plain_try(b: Body) -> Body
     let p = b.pair;
     let none = views::empty();
     let zero = stamps::fresh();
-    if kind == 7 {
-        return says(7, b.first, 0, b.tries, none, zero, 0);
+    if kind == layout::GET {
+        return says(layout::GET, b.first, 0, b.tries, none, zero, 0);
     }
-    if kind == 8 {
-        return says(8, b.first, 0, b.tries, none, p, 0);
+    if kind == layout::PUT {
+        return says(layout::PUT, b.first, 0, b.tries, none, p, 0);
     }
-    if kind == 9 {
-        return says(9, b.first, 0, b.tries, none, zero, 0);
+    if kind == layout::VIEW_REPLY {
+        return says(layout::VIEW_REPLY, b.first, 0, b.tries, none, zero, 0);
     }
-    if kind == 10 {
-        return says(10, 0, 0, b.tries, none, p, 0);
+    if kind == layout::PAIR_REPLY {
+        return says(layout::PAIR_REPLY, 0, 0, b.tries, none, p, 0);
     }
-    says(11, 0, 0, b.tries, none, zero, 0)
+    says(layout::ACK, 0, 0, b.tries, none, zero, 0)
 }
 
 pub fn no_sending() -> Sending

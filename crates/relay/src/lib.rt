@@ -280,28 +280,28 @@ pub fn hears(s: u8, p: Part, from: u8, b: Body) -> Plan
     let kind = b.kind;
     let q = b.sequence;
     let pair = b.pair;
-    if kind == 1 {
+    if kind == layout::REQUEST {
         return request_heard(p, from, b.updates, b.first);
     }
-    if kind == 2 {
+    if kind == layout::VIEW {
         return parts::quietly(transfers::learns(p, b.first));
     }
-    if kind == 3 {
+    if kind == layout::PROPOSAL {
         return sequence_heard(p, from, b.first, q, false);
     }
-    if kind == 4 {
+    if kind == layout::CONVERGED {
         return sequence_heard(p, from, b.first, q, true);
     }
-    if kind == 5 {
+    if kind == layout::INSTALL {
         return install_heard(s, p, b.first, b.second, q);
     }
-    if kind == 6 {
+    if kind == layout::STATE {
         return state_heard(p, from, b.first, b.second, pair, b.updates);
     }
-    if kind == 7 {
+    if kind == layout::GET {
         return get_heard(p, from, b.tries, b.first);
     }
-    if kind == 8 {
+    if kind == layout::PUT {
         return put_heard(p, from, b.tries, b.first, pair);
     }
     parts::quietly(p)

@@ -5,7 +5,7 @@ use mathlib.Core.List.{List}
 use Prim.Native.Nat.{ℕ, _+_, _-_}
 use lib.Dec.{eqb, leb, ltb}
 use lib.ListN.{length, set}
-use Rattle.rules.specs.Sets.{if_then_else_, _&&_}
+use Rattle.rules.specs.Sets.{if_then_else_, _&&_, relayCount, deskCount, everyone, placeCount, seatCount}
 use Rattle.rules.specs.Stamps.{Value, isValue, isNoValue}
 use Rattle.rules.specs.Messages.{Message, outgoing, Event, nothing, opened, readDone, writeDone, Refusal, bad-step, empty, dead, no-room, Answer, refused, does}
 use Rattle.rules.specs.State.{Relay, Desk, Place, free, waiting, World, crashedRelay, crashedDesk, relayAt, deskAt, placeAt, withRelay, withDesk, withPlaces}
@@ -26,21 +26,45 @@ pub data Act : Type 0 where
   crash : (who : ℕ) → Act
   bad : Act
 
--- "1 JOIN relay, 2 LEAVE relay, 3 TIMER relay, 4 READ desk, 5 WRITE desk value, 6 DELIVER place, 7 DROP place, 8 CRASH who (0..7 relays, 8..11 desks).
--- A value other than 0 belongs to WRITE only." BAD STEP: "kind, id or value out of range"
+-- the kinds of steps: "1 JOIN relay, 2 LEAVE relay, 3 TIMER relay, 4 READ desk, 5 WRITE desk value, 6 DELIVER place, 7 DROP place, 8 CRASH who"
+abbrev pub JOIN : ℕ
+JOIN = 1
+
+abbrev pub LEAVE : ℕ
+LEAVE = 2
+
+abbrev pub TIMER : ℕ
+TIMER = 3
+
+abbrev pub READ : ℕ
+READ = 4
+
+abbrev pub WRITE : ℕ
+WRITE = 5
+
+abbrev pub DELIVER : ℕ
+DELIVER = 6
+
+abbrev pub DROP : ℕ
+DROP = 7
+
+abbrev pub CRASH : ℕ
+CRASH = 8
+
+-- "A value other than 0 belongs to WRITE only." BAD STEP: "kind, id or value out of range"
 abbrev pub is : Step → ℕ → ℕ → Bool
 is k kind ids = eqb (k .kind) kind && (ltb (k .id) ids && isNoValue (k .value))
 
 unfoldable pub told : Step → Act
 told k =
-    if is k 1 8 then join (k .id)
-    else if is k 2 8 then leave (k .id)
-    else if is k 3 8 then timer (k .id)
-    else if is k 4 4 then read (k .id)
-    else if eqb (k .kind) 5 && (ltb (k .id) 4 && isValue (k .value)) then write (k .id) (k .value)
-    else if is k 6 256 then deliver (k .id)
-    else if is k 7 256 then drop (k .id)
-    else if is k 8 12 then crash (k .id)
+    if is k JOIN relayCount then join (k .id)
+    else if is k LEAVE relayCount then leave (k .id)
+    else if is k TIMER relayCount then timer (k .id)
+    else if is k READ deskCount then read (k .id)
+    else if eqb (k .kind) WRITE && (ltb (k .id) deskCount && isValue (k .value)) then write (k .id) (k .value)
+    else if is k DELIVER placeCount then deliver (k .id)
+    else if is k DROP placeCount then drop (k .id)
+    else if is k CRASH everyone then crash (k .id)
     else bad
 
 -- ---- outcomes
@@ -84,21 +108,21 @@ roomy w ms = leb (length ms) (freeIn (w .places))
 unfoldable pub relayDoes : World → ℕ → ℕ → Answer Relay → Outcome
 relayDoes w n s (refused x) = refusal x
 relayDoes w n s (does r ss e) =
-    if roomy w (outgoing s ss) && (leb (length (r .generators)) 8 && leb (length (r .transfers)) 8)
+    if roomy w (outgoing s ss) && (leb (length (r .generators)) seatCount && leb (length (r .transfers)) seatCount)
     then done (withPlaces (withRelay w s r) (placeAll (outgoing s ss) (w .places))) (reports e s) (length (outgoing s ss)) n 0
     else refusal no-room
 
 unfoldable pub deskDoes : World → ℕ → ℕ → Answer Desk → Outcome
 deskDoes w n d (refused x) = refusal x
 deskDoes w n d (does next ss e) =
-    if roomy w (outgoing (8 + d) ss)
-    then done (withPlaces (withDesk w d next) (placeAll (outgoing (8 + d) ss) (w .places))) (reports e d) (length (outgoing (8 + d) ss)) n 0
+    if roomy w (outgoing (relayCount + d) ss)
+    then done (withPlaces (withDesk w d next) (placeAll (outgoing (relayCount + d) ss) (w .places))) (reports e d) (length (outgoing (relayCount + d) ss)) n 0
     else refusal no-room
 
 -- ---- who is alive: 0..7 relays, 8..11 desks
 
 abbrev pub aliveIn : World → ℕ → Bool
-aliveIn w who = if ltb who 8 then relayAt w who .alive else deskAt w (who - 8) .alive
+aliveIn w who = if ltb who relayCount then relayAt w who .alive else deskAt w (who - relayCount) .alive
 
 unfoldable pub ifAlive : World → ℕ → Outcome → Outcome
 ifAlive w who o = if aliveIn w who then o else refusal dead
@@ -110,9 +134,9 @@ freed w p = withPlaces w (set (w .places) p free)
 
 unfoldable pub delivers : World → Message → Outcome
 delivers w m =
-    if ltb (m .to) 8
+    if ltb (m .to) relayCount
     then relayDoes w 1 (m .to) (relayHears (m .to) (relayAt w (m .to)) (m .from) (m .body))
-    else deskDoes w 1 (m .to - 8) (deskHears (m .to - 8) (deskAt w (m .to - 8)) (m .from) (m .body))
+    else deskDoes w 1 (m .to - relayCount) (deskHears (m .to - relayCount) (deskAt w (m .to - relayCount)) (m .from) (m .body))
 
 unfoldable pub delivery : World → ℕ → Place → Outcome
 delivery w p free = refusal empty
@@ -124,16 +148,16 @@ dropping w p (waiting m) = done (freed w p) noReport 0 0 1
 
 unfoldable pub crashing : World → ℕ → Outcome
 crashing w who =
-    if ltb who 8
+    if ltb who relayCount
     then done (withRelay w who (crashedRelay (relayAt w who))) noReport 0 0 0
-    else done (withDesk w (who - 8) (crashedDesk (deskAt w (who - 8)))) noReport 0 0 0
+    else done (withDesk w (who - relayCount) (crashedDesk (deskAt w (who - relayCount)))) noReport 0 0 0
 
 unfoldable pub acts : World → Act → Outcome
 acts w (join s) = ifAlive w s (relayDoes w 0 s (joinAsked s (relayAt w s)))
 acts w (leave s) = ifAlive w s (relayDoes w 0 s (leaveAsked s (relayAt w s)))
 acts w (timer s) = ifAlive w s (relayDoes w 0 s (timerRang (relayAt w s)))
-acts w (read n) = ifAlive w (8 + n) (deskDoes w 0 n (readAsked (deskAt w n)))
-acts w (write n x) = ifAlive w (8 + n) (deskDoes w 0 n (writeAsked (deskAt w n) x))
+acts w (read n) = ifAlive w (relayCount + n) (deskDoes w 0 n (readAsked (deskAt w n)))
+acts w (write n x) = ifAlive w (relayCount + n) (deskDoes w 0 n (writeAsked (deskAt w n) x))
 acts w (deliver p) = delivery w p (placeAt w p)
 acts w (drop p) = dropping w p (placeAt w p)
 acts w (crash who) = ifAlive w who (crashing w who)

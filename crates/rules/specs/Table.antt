@@ -5,7 +5,7 @@ use mathlib.Core.List.{List, [], _∷_}
 use Prim.Native.Nat.{ℕ, _+_, _-_}
 use lib.Dec.{eqb, leb, ltb}
 use lib.ListN.{length, getD}
-use Rattle.rules.specs.Sets.{_&&_, _||_, if_then_else_, within, member, reaches, inside, joins, none, all}
+use Rattle.rules.specs.Sets.{_&&_, _||_, if_then_else_, within, member, reaches, inside, joins, none, all, relayCount, deskCount, everyone, placeCount, seatCount}
 use Rattle.rules.specs.Stamps.{isValue, isNoValue}
 use Rattle.rules.specs.Messages.{Body, request, view, proposal, converged, install, state, get, put, viewReply, pairReply, ack, Message, outgoing, bad-step, empty, dead, not-now, not-yet, worn, no-room, number, Answer, refused, does}
 use Rattle.rules.specs.State.{Desk, Phase, Idle, Read1, Read2, Write1, Write2, Transfer, Relay, Place, free, waiting, World, relayAt, deskAt, placeAt}
@@ -13,20 +13,20 @@ use Rattle.rules.specs.Sending.{freeIn}
 use Rattle.rules.specs.Generators.{oneIf}
 use Rattle.rules.specs.Relays.{joinAsked, leaveAsked, timerRang, isFor, transferFor, keeps, gathers, passes, onward, relayHears}
 use Rattle.rules.specs.Desks.{isIdle, isFirst, isSecond, full, notesPair, notesAck, readAsked, writeAsked, current, deskHears}
-use Rattle.rules.specs.Steps.{Step, told, Act, join, leave, timer, read, write, deliver, drop, crash, bad, aliveIn, freed}
+use Rattle.rules.specs.Steps.{Step, WRITE, told, Act, join, leave, timer, read, write, deliver, drop, crash, bad, aliveIn, freed}
 
 -- the number of the first row that applies; 0, done, where none does
 abbrev pub firstOf : List (Bool × ℕ) → ℕ
 firstOf [] = 0
 firstOf (r ∷ rs) = if r .0 then r .1 else firstOf rs
 
--- how many ids a kind of step has: 1 to 3 relays, 4 and 5 desks, 6 and 7 places, 8 relays and desks; what is no kind has none
+-- how many ids a kind of step has: JOIN, LEAVE, TIMER relays; READ, WRITE desks; DELIVER, DROP places; CRASH relays and desks; what is no kind has none
 abbrev pub idsOf : ℕ → ℕ
-idsOf kind = getD (0 ∷ 8 ∷ 8 ∷ 8 ∷ 4 ∷ 4 ∷ 256 ∷ 256 ∷ 12 ∷ []) kind 0
+idsOf kind = getD (0 ∷ relayCount ∷ relayCount ∷ relayCount ∷ deskCount ∷ deskCount ∷ placeCount ∷ placeCount ∷ everyone ∷ []) kind 0
 
 -- "kind, id or value out of range"; "A value other than 0 belongs to WRITE only."
 abbrev pub outOfRange : Step → Bool
-outOfRange k = not (ltb (k .id) (idsOf (k .kind)) && (if eqb (k .kind) 5 then isValue (k .value) else isNoValue (k .value)))
+outOfRange k = not (ltb (k .id) (idsOf (k .kind)) && (if eqb (k .kind) WRITE then isValue (k .value) else isNoValue (k .value)))
 
 -- "DELIVER or DROP of a free place"
 abbrev pub isFree : Place → Bool
@@ -56,8 +56,8 @@ abbrev pub deadOne : World → Act → Bool
 deadOne w (join s) = isDead w s
 deadOne w (leave s) = isDead w s
 deadOne w (timer s) = isDead w s
-deadOne w (read n) = isDead w (8 + n)
-deadOne w (write n x) = isDead w (8 + n)
+deadOne w (read n) = isDead w (relayCount + n)
+deadOne w (write n x) = isDead w (relayCount + n)
 deadOne w (deliver p) = receiverDead w (placeAt w p)
 deadOne w (drop p) = false
 deadOne w (crash who) = isDead w who
@@ -92,7 +92,7 @@ mustWait s r (ack try) = false
 
 abbrev pub messageWaits : World → Place → Bool
 messageWaits w free = false
-messageWaits w (waiting m) = ltb (m .to) 8 && mustWait (m .to) (relayAt w (m .to)) (m .body)
+messageWaits w (waiting m) = ltb (m .to) relayCount && mustWait (m .to) (relayAt w (m .to)) (m .body)
 
 abbrev pub notYet : World → Act → Bool
 notYet w (join s) = false
@@ -132,7 +132,7 @@ replyWears d from (put try c p) = false
 
 abbrev pub messageWears : World → Place → Bool
 messageWears w free = false
-messageWears w (waiting m) = not (ltb (m .to) 8) && replyWears (deskAt w (m .to - 8)) (m .from) (m .body)
+messageWears w (waiting m) = not (ltb (m .to) relayCount) && replyWears (deskAt w (m .to - relayCount)) (m .from) (m .body)
 
 abbrev pub wornOut : World → Act → Bool
 wornOut w (join s) = false
@@ -200,10 +200,10 @@ pub data Ruling : Type 0 where
 -- "its own delivered place counted as free": f is the world with that place free
 abbrev pub heardBy : World → Message → Ruling
 heardBy f m =
-    if ltb (m .to) 8
+    if ltb (m .to) relayCount
     then relayed f (m .to) (takesGenerator (m .to) (relayAt f (m .to)) (m .from) (m .body)) (takesTransfer (m .to) (relayAt f (m .to)) (m .body))
     (relayHears (m .to) (relayAt f (m .to)) (m .from) (m .body))
-    else desked f (m .to - 8) (deskHears (m .to - 8) (deskAt f (m .to - 8)) (m .from) (m .body))
+    else desked f (m .to - relayCount) (deskHears (m .to - relayCount) (deskAt f (m .to - relayCount)) (m .from) (m .body))
 
 abbrev pub delivered : World → ℕ → Place → Ruling
 delivered w p free = unruled
@@ -226,10 +226,10 @@ abbrev pub placesFor : World → ℕ → Bool
 placesFor f n = leb n (freeIn (f .places))
 
 abbrev pub generatorsFor : Relay → Bool → Bool
-generatorsFor r taken = leb (oneIf taken) (8 - length (r .generators))
+generatorsFor r taken = leb (oneIf taken) (seatCount - length (r .generators))
 
 abbrev pub transfersFor : Relay → Bool → Bool
-transfersFor r taken = leb (oneIf taken) (8 - length (r .transfers))
+transfersFor r taken = leb (oneIf taken) (seatCount - length (r .transfers))
 
 abbrev pub relayRoom : World → ℕ → Bool → Bool → Answer Relay → Bool
 relayRoom f s g t (refused x) = true
@@ -237,7 +237,7 @@ relayRoom f s g t (does r ss e) = placesFor f (length (outgoing s ss)) && (gener
 
 abbrev pub deskRoom : World → ℕ → Answer Desk → Bool
 deskRoom f d (refused x) = true
-deskRoom f d (does next ss e) = placesFor f (length (outgoing (8 + d) ss))
+deskRoom f d (does next ss e) = placesFor f (length (outgoing (relayCount + d) ss))
 
 abbrev pub room : Ruling → Bool
 room (relayed f s g t a) = relayRoom f s g t a

@@ -34,6 +34,23 @@ pub const NO_ROOM: u8 = 8;
 
 pub const BAD_SHEET: u8 = 9;
 
+// The kinds of steps: "1 JOIN relay, 2 LEAVE relay, 3 TIMER relay, 4 READ desk, 5 WRITE desk value, 6 DELIVER place, 7 DROP place, 8 CRASH who".
+pub const JOIN: u8 = 1;
+
+pub const LEAVE: u8 = 2;
+
+pub const TIMER: u8 = 3;
+
+pub const READ: u8 = 4;
+
+pub const WRITE: u8 = 5;
+
+pub const DELIVER: u8 = 6;
+
+pub const DROP: u8 = 7;
+
+pub const CRASH: u8 = 8;
+
 // A step as a sheet has it.
 pub struct Step {
     pub kind: u8,

@@ -6,11 +6,11 @@ use Prim.Native.Nat.{ℕ, zero, suc, _+_, _*_, _-_, _≤_, _<_}
 use lib.Dec.{eqb, leb, ltb}
 use lib.ListN.{getD, set, replicate}
 use Rattle.rows.specs.Bytes.{u16At, tab}
-use Rattle.rules.specs.Sets.{if_then_else_, bit, those, inside}
+use Rattle.rules.specs.Sets.{if_then_else_, bit, those, inside, relayCount, deskCount, everyone}
 use Rattle.rules.specs.Messages.{Body, Message, Answer}
 use Rattle.rules.specs.State.{Transfer, Relay, Place, free, waiting, noRelay, noDesk, World, relayAt, deskAt, placeAt, startRelay, startDesk}
 use Rattle.rules.specs.declared.Desk.{Desk}
-use Rattle.rules.specs.Steps.{Act, deliver, drop, Outcome, relayDoes, deskDoes, freed}
+use Rattle.rules.specs.Steps.{JOIN, TIMER, READ, WRITE, DELIVER, CRASH, Act, deliver, drop, Outcome, relayDoes, deskDoes, freed}
 use Rattle.layout.specs.Layout.{generatorWidth, transferNew, transferWidth, relayBegin, deskBegin, placeBegin}
 use Rattle.layout.specs.Image.{transferAt, worldAt}
 use Rattle.layout.specs.Lent.{Lent, left}
@@ -27,7 +27,7 @@ pub record First (n : ℕ) (f : ℕ → Bool) (r : ℕ) : Type 0 where
 
 -- the row of who
 abbrev pub rowOf : ℕ → ℕ
-rowOf who = if ltb who 8 then relayBegin who else deskBegin (who - 8)
+rowOf who = if ltb who relayCount then relayBegin who else deskBegin (who - relayCount)
 
 -- the place p is free: its kind is 0
 unfoldable pub freeRow : List ℕ → ℕ → Bool
@@ -92,15 +92,15 @@ deskActs w kind n x = deskDoes w 0 n (deskAsked kind x (deskAt w n))
 
 -- "6 DELIVER place, 7 DROP place"
 abbrev pub placeAct : ℕ → ℕ → Act
-placeAct kind p = if eqb kind 6 then deliver p else drop p
+placeAct kind p = if eqb kind DELIVER then deliver p else drop p
 
 -- who acts in a step of the kind, 0..7 relays, 8..11 desks; 12 is nobody
 unfoldable pub actorOf : ℕ → ℕ → ℕ
 actorOf kind id =
-    if (leb 1 kind && leb kind 3) && ltb id 8 then id
-    else if (leb 4 kind && leb kind 5) && ltb id 4 then 8 + id
-    else if eqb kind 8 && ltb id 12 then id
-    else 12
+    if (leb JOIN kind && leb kind TIMER) && ltb id relayCount then id
+    else if (leb READ kind && leb kind WRITE) && ltb id deskCount then relayCount + id
+    else if eqb kind CRASH && ltb id everyone then id
+    else everyone
 
 -- ---- begun: the first n relays and m desks of a start are there
 

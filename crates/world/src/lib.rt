@@ -145,10 +145,10 @@ fn relay_asked(kind: u8, s: u8, part: Part) -> Plan
     requires { ⌜ (s < 8) × (showsView (partOf part .view) (partOf part) ≡ true) ⌝ }
     ensures { λ r. ⌜ planOf r ≡ planned noRelay (relayAsked kind s (partOf part)) ⌝ }
 {
-    if kind == 1 {
+    if kind == rules::JOIN {
         return relay::join_asked(s, part);
     }
-    if kind == 2 {
+    if kind == rules::LEAVE {
         return relay::leave_asked(s, part);
     }
     relay::timer_rang(part)
@@ -170,7 +170,7 @@ fn relay_acts(w: &mut [u8], kind: u8, s: u8) -> Answer
 fn desk_asked(kind: u8, x: u32, desk: Desk) -> DeskPlan
     ensures { λ r. ⌜ deskPlanOf r ≡ planned noDesk (deskAsked kind x desk) ⌝ }
 {
-    if kind == 5 {
+    if kind == rules::WRITE {
         return desk::write_asked(desk, x);
     }
     desk::read_asked(desk)
@@ -199,14 +199,14 @@ fn about_of(b: Body) -> About
     ensures { λ r. ⌜ (r .generator ≡ generatorOfBody (bodyOf b)) × (move (r .old) (r .new) ≡ moveOfBody (bodyOf b)) ⌝ }
 {
     let kind = b.kind;
-    if (kind == 5) | (kind == 6) {
+    if (kind == layout::INSTALL) | (kind == layout::STATE) {
         return About {
             generator: b.second,
             old: b.first,
             new: b.second,
         };
     }
-    if (kind == 3) | (kind == 4) {
+    if (kind == layout::PROPOSAL) | (kind == layout::CONVERGED) {
         return About {
             generator: b.first,
             old: 0,
@@ -268,7 +268,7 @@ fn place_acts(w: &mut [u8], kind: u8, id: u8) -> Answer
     if reads::is_free(w, p) {
         return refuses(rules::EMPTY);
     }
-    if kind == 6 {
+    if kind == rules::DELIVER {
         return deliver(w, p);
     }
     writes::free(w, p);
@@ -290,13 +290,13 @@ fn crash(w: &mut [u8], who: u8) -> Answer
 fn actor(kind: u8, id: u8) -> u8
     ensures { λ r. ⌜ r ≡ actorOf kind id ⌝ }
 {
-    if (1 <= kind) & (kind <= 3) & (id < 8) {
+    if (rules::JOIN <= kind) & (kind <= rules::TIMER) & (id < 8) {
         return id;
     }
-    if (4 <= kind) & (kind <= 5) & (id < 4) {
+    if (rules::READ <= kind) & (kind <= rules::WRITE) & (id < 4) {
         return 8 + id;
     }
-    if (kind == 8) & (id < 12) {
+    if (kind == rules::CRASH) & (id < 12) {
         return id;
     }
     12
@@ -308,10 +308,10 @@ fn step_good(w: &mut [u8], k: Step) -> Answer
     ensures { λ r. ⌜ lentOf r (now (w .exit)) ≡ lent.lentStep (now (w .entry)) k ⌝ }
 {
     let kind = k.kind;
-    if (kind != 5) & (k.value != 0) {
+    if (kind != rules::WRITE) & (k.value != 0) {
         return refuses(rules::BAD_STEP);
     }
-    if (kind == 6) | (kind == 7) {
+    if (kind == rules::DELIVER) | (kind == rules::DROP) {
         return place_acts(w, kind, k.id);
     }
     let who = actor(kind, k.id);
@@ -321,7 +321,7 @@ fn step_good(w: &mut [u8], k: Step) -> Answer
     if !reads::alive_at(w, who) {
         return refuses(rules::DEAD);
     }
-    if kind == 8 {
+    if kind == rules::CRASH {
         return crash(w, who);
     }
     if who < 8 {
