@@ -26,7 +26,7 @@ fn main() {
     if !archive.is_file() {
         eprintln!("{} is missing.", archive.display());
         eprintln!("Build it at the repository's top: rt staticlib engine");
-        eprintln!("To try this package without the engine: cargo run --features stub --bin beside");
+        eprintln!("To try this package without the engine: cargo run --package beside --features stub --bin beside");
         std::process::exit(1);
     }
     println!("cargo:rustc-link-search=native={}", folder.display());
