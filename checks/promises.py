@@ -91,6 +91,7 @@ def origin(path):
 
 # ---- names in a statement
 
+EQUAL = 'mathlib.Core.Path._≡_'
 SYNTAX = set('( ) { } ; , : = . → λ × ¬ ⊥ record let in Type _'.split())
 
 
@@ -136,8 +137,13 @@ def resolved(path, name, bound):
     raise Unread(f'{path}: {name} is neither imported nor declared nor a variable')
 
 
-# The tokens of a statement with each name resolved. A variable that a λ or let binds is known to the end of its parentheses.
+# The tokens of a statement with each name resolved.
 def resolve(path, words, bound):
+    return unbracketed(meanings(path, words, bound))
+
+
+# What each token of a statement means. A variable that a λ or let binds is known to the end of its parentheses.
+def meanings(path, words, bound):
     scopes, out = [dict(bound)], []
     for at, word in enumerate(words):
         if word in '({':
@@ -148,7 +154,7 @@ def resolve(path, words, bound):
         out.append('.' + word if label else resolved(path, word, scopes[-1]))
         if word in ')}':
             scopes.pop()
-    return unbracketed(out)
+    return out
 
 
 # The names that the λ or let at this place binds: λ x y (z : A). ..; let x = .. in ..
@@ -178,6 +184,16 @@ def unbracketed(words):
         if words[:1] == ['('] and closing(words, 0) == len(words) - 1:
             words = words[1:-1]
     return words
+
+
+# Words as a text: no space inside parentheses.
+def shown(words):
+    return ' '.join(words).replace('( ', '(').replace(' )', ')')
+
+
+# What a promise determines: the result, and buffers by their parameters' places.
+def holes(promise):
+    return [word for word in ['#r'] + sorted({w for w in promise if re.fullmatch(r"#\d+'", w)}) if word in promise]
 
 
 # Where the parenthesis that opens at this place is closed.
