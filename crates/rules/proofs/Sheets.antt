@@ -1,149 +1,256 @@
--- Sheets: what is written is read back, and what is read is written again. Assumes nothing.
-use mathlib.Core.Path.{_≡_, refl, sym, ap}
+-- Sheets: what is written is read back, and what is read is written again, in any form that its version tells. Assumes nothing.
+use mathlib.Core.Path.{_≡_, refl, sym, ap, _∙_}
 use mathlib.Core.Bool.{Bool, true, false, not, and-eq-true-iff}
-use mathlib.Core.List.{List, [], _∷_, _++_}
-use Prim.Native.Nat.{ℕ, zero, suc, _-_, _*_, _%_, _≤_, _<_}
+use mathlib.Core.List.{List, [], _∷_, _++_, append-assoc}
+use Prim.Native.Nat.{ℕ, zero, suc, _+_, _-_, _*_, _/_, _%_, _^_, _≤_, _<_}
+use native.Mathlib.Nat.{div-add-mod, mul-div-right, mul-mod-right}
 use native.Mathlib.Omega.{arith}
 use lib.Dec.{eqb, ltb}
-use lib.ListN.{length, getD, drop}
-use borrow.Author.Tests.{eqb-true, not-false, le-ltb, eq-eqb, ne-eqb}
-use Rattle.views.proofs.Truth.{contrary, neither-true}
+use lib.ListN.{length, getD, take, drop, length-append, length-drop, take-append-drop}
+use lib.Seq.{drop-at, getD-drop, length-take-le}
+use borrow.Author.Tests.{eqb-true, eqb-false, ltb-false, not-false, le-ltb, eq-eqb, ne-eqb}
+use Rattle.views.proofs.Truth.{neither-true}
 use Rattle.rules.specs.Sets.{_&&_, _||_}
 use Rattle.rules.specs.Steps.{Step}
-use Rattle.rows.specs.Bytes.{bytesOf, be32, u32At}
+use Rattle.rows.specs.Bytes.{bytesOf, be16, zeros}
+use Rattle.rows.specs.Tests.{allZero}
 use Rattle.rows.proofs.Laws.{Holds, holds-same}
-use Rattle.rows.proofs.Numbers as Numbers
-use Rattle.rows.proofs.Numbers.{length-bytesOf, number-held, holds-u32}
-use Rattle.rules.specs.Sheets.{stepIn, stepBytes, stepsIn, allZerosIn, stepsBytes, sheet, marked, stepsOf, badSheet, sheetIn, sheetBytes}
+use Rattle.rows.proofs.Held.{holds-one, holds-append, held-all, zeros-held, zeros-pass}
+use Rattle.rows.proofs.Tables.{length-zeros}
+use Rattle.rows.proofs.Numbers.{Bytes, length-bytesOf, length-be16, number-held, holds-number, holds-u16}
+use Rattle.rules.specs.Sheets.{Form, version1, formOf, valueAt, zerosAt, stepWidth, stepIn, zerosIn, stepBytes, stepsIn, allZerosIn, stepsBytes}
+use Rattle.rules.specs.Sheets.{headerBytes, headerWidth, versionAt, maskAt, mark, marked, versionIn, maskIn, formIn}
+use Rattle.rules.specs.Sheets.{sheet, stepsBy, stepsOf, badBy, badSheet, listBy, sheetIn, sheetBytes, sheetWidth}
+
+-- a form that its version tells
+pub record Known (f : Form) : Type 0 where
+  pub number : f .version < 65536
+  pub told : formOf (f .version) ≡ f
+
+pub version1-known : Known version1
+unfolding formOf
+version1-known = record { number = omega arith; told = refl }
+
+-- no version's sheets have more steps than version 1's
+pub most-steps : (n : ℕ) → formOf n .mostSteps ≤ version1 .mostSteps
+unfolding formOf
+most-steps n = omega arith
 
 -- a step that a sheet can hold; a list of them
-pub record Small (k : Step) : Type 0 where
+pub record Small (f : Form) (k : Step) : Type 0 where
   pub kind : k .kind < 256
   pub id : k .id < 256
-  pub value : k .value < 4294967296
+  pub value : k .value < 256 ^ f .valueBytes
 
-unfoldable pub Smalls : List Step → Type 0
-Smalls [] = Unit {0}
-Smalls (k ∷ ks) = Small k × Smalls ks
+unfoldable pub Smalls : Form → List Step → Type 0
+Smalls f [] = Unit {0}
+Smalls f (k ∷ ks) = Small f k × Smalls f ks
 
-step-back : (k : Step) (r : List ℕ) → Small k → stepIn (stepBytes k ++ r) ≡ k
-step-back k r h =
-    let at : Holds (stepBytes k ++ r) 4 (be32 (k .value)) = record { pre = k .kind ∷ k .id ∷ 0 ∷ 0 ∷ []; post = r; long = refl; whole = refl } in
-    λ i. record { kind = k .kind; id = k .id; value = holds-u32 (stepBytes k ++ r) 4 (k .value) (h .value) at i }
+module _ (f : Form) where
+  -- ---- steps
 
-steps-back : (ks : List Step) → Smalls ks → stepsIn (length ks) (stepsBytes ks) ≡ ks
-unfolding stepsIn stepsBytes Smalls bytesOf
-steps-back [] h = refl
-steps-back (k ∷ ks) h = λ i. step-back k (stepsBytes ks) (h .0) i ∷ steps-back ks (h .1) i
+  pub step-length : (k : Step) → length (stepBytes f k) ≡ stepWidth f
+  step-length k = simp length-append (omega (arith, length-zeros (f .zeroBytes), length-bytesOf (f .valueBytes) (k .value)))
 
-zeros-back : (ks : List Step) → allZerosIn (length ks) (stepsBytes ks) ≡ true
-unfolding allZerosIn stepsBytes bytesOf
-zeros-back [] = refl
-zeros-back (k ∷ ks) = zeros-back ks
+  step-back : (k : Step) (r : List ℕ) → Small f k → stepIn f (stepBytes f k ++ r) ≡ k
+  step-back k r h =
+      let z : List ℕ = zeros (f .zeroBytes) in
+      let v : List ℕ = bytesOf (f .valueBytes) (k .value) in
+      let at : Holds (stepBytes f k ++ r) (valueAt f) v =
+              record {
+                pre = k .kind ∷ k .id ∷ z;
+                post = r;
+                long = omega (arith, length-zeros (f .zeroBytes));
+                whole = ap (λ (l : List ℕ). k .kind ∷ k .id ∷ l) (append-assoc z v r);
+              } in
+      λ i. record { kind = k .kind; id = k .id; value = holds-number (f .valueBytes) (stepBytes f k ++ r) (valueAt f) (k .value) (h .value) at i }
 
-pub steps-length : (ks : List Step) → length (stepsBytes ks) ≡ 8 * length ks
-unfolding stepsBytes bytesOf
-steps-length [] = refl
-steps-length (k ∷ ks) = omega (arith, steps-length ks)
+  zeros-there : (k : Step) (r : List ℕ) → zerosIn f (stepBytes f k ++ r) ≡ true
+  zeros-there k r =
+      let z : List ℕ = zeros (f .zeroBytes) in
+      let v : List ℕ = bytesOf (f .valueBytes) (k .value) in
+      zeros-pass (stepBytes f k ++ r) zerosAt (f .zeroBytes)
+      (record { pre = k .kind ∷ k .id ∷ []; post = v ++ r; long = refl; whole = ap (λ (l : List ℕ). k .kind ∷ k .id ∷ l) (append-assoc z v r) })
 
-module _ (mask : ℕ) (ks : List Step) (low : 0 < mask) (few : length ks ≤ 8000) (h : Smalls ks) where
-  count-back : stepsOf (sheetBytes mask ks) ≡ length ks
-  unfolding sheetBytes
-  count-back = omega (arith, steps-length ks)
+  -- past a step are the others
+  past-step : (k : Step) (r : List ℕ) → drop (stepWidth f) (stepBytes f k ++ r) ≡ r
+  past-step k r = drop-at (stepBytes f k) r (stepWidth f) (step-length k)
 
-  not-bad : badSheet (sheetBytes mask ks) ≡ false
-  unfolding sheetBytes
-  not-bad =
-      let b : List ℕ = sheetBytes mask ks in
-      let long : ltb (length b) 6 ≡ false = le-ltb (length b) 6 (omega arith) in
-      let masked : eqb mask 0 ≡ false = ne-eqb mask 0 (λ z. omega arith) in
-      let whole : eqb ((length b - 6) % 8) 0 ≡ true = eq-eqb ((length b - 6) % 8) 0 (omega (arith, steps-length ks)) in
-      let blank : allZerosIn (stepsOf b) (drop 6 b) ≡ true = rw count-back (zeros-back ks) in
-      let counted : ltb 8000 (stepsOf b) ≡ false = rw count-back (le-ltb 8000 (length ks) few) in
-      rw (long, masked, whole, blank, counted)
+  steps-back : (ks : List Step) → Smalls f ks → stepsIn f (length ks) (stepsBytes f ks) ≡ ks
+  unfolding stepsIn stepsBytes Smalls
+  steps-back [] h = refl
+  steps-back (k ∷ ks) h =
+      let r : List ℕ = stepsBytes f ks in
+      let rest : stepsIn f (length ks) (drop (stepWidth f) (stepBytes f k ++ r)) ≡ ks = rw (past-step k r) (steps-back ks (h .1)) in
+      λ i. step-back k r (h .0) i ∷ rest i
 
-  pub sheet-back : sheetIn (sheetBytes mask ks) ≡ sheet mask ks
-  unfolding sheetIn
-  sheet-back = rw (not-bad, count-back) (unfold sheetBytes in (ap (λ (l : List Step). sheet mask l) (steps-back ks h)))
+  zeros-back : (ks : List Step) → allZerosIn f (length ks) (stepsBytes f ks) ≡ true
+  unfolding allZerosIn stepsBytes
+  zeros-back [] = refl
+  zeros-back (k ∷ ks) = rw (zeros-there k (stepsBytes f ks), past-step k (stepsBytes f ks)) (zeros-back ks)
+
+  pub steps-length : (ks : List Step) → length (stepsBytes f ks) ≡ stepWidth f * length ks
+  unfolding stepsBytes
+  steps-length [] = omega arith
+  steps-length (k ∷ ks) = rw (length-append (stepBytes f k) (stepsBytes f ks), step-length k, steps-length ks) (omega arith)
+
+  -- ---- a sheet that is written
+
+  pub header-length : (mask : ℕ) → length (headerBytes f mask) ≡ headerWidth f
+  unfolding bytesOf
+  header-length mask = refl
+
+  module _ (mask : ℕ) (ks : List Step) where
+    pub size : length (sheetBytes f mask ks) ≡ sheetWidth f (length ks)
+    unfolding sheetBytes bytesOf
+    size = omega (arith, steps-length ks)
+
+    -- past its header stand its steps
+    past-length : length (sheetBytes f mask ks) - headerWidth f ≡ stepWidth f * length ks
+    past-length = omega (arith, size)
+
+    count-back : stepsBy f (sheetBytes f mask ks) ≡ length ks
+    count-back = rw past-length (mul-div-right (length ks) (omega arith))
+
+    past-header : drop (headerWidth f) (sheetBytes f mask ks) ≡ stepsBytes f ks
+    unfolding sheetBytes bytesOf
+    past-header = refl
+
+    module _ (known : Known f) where
+      version-back : versionIn (sheetBytes f mask ks) ≡ f .version
+      unfolding sheetBytes
+      version-back =
+          holds-u16 (sheetBytes f mask ks) versionAt (f .version) (known .number)
+          (record { pre = mark; post = mask ∷ stepsBytes f ks; long = refl; whole = ap (λ (l : List ℕ). mark ++ l) (append-assoc (be16 (f .version)) (mask ∷ []) (stepsBytes f ks)) })
+
+      form-back : formIn (sheetBytes f mask ks) ≡ f
+      form-back = ap formOf version-back ∙ known .told
+
+      module _ (low : 0 < mask) (few : length ks ≤ f .mostSteps) (h : Smalls f ks) where
+        not-bad : badBy f (sheetBytes f mask ks) ≡ false
+        unfolding sheetBytes bytesOf
+        not-bad =
+            let b : List ℕ = sheetBytes f mask ks in
+            let w : ℕ = stepWidth f in
+            let long : ltb (length b) (headerWidth f) ≡ false = le-ltb (length b) (headerWidth f) (omega (arith, size)) in
+            let versioned : eqb (versionIn b) (f .version) ≡ true = eq-eqb (versionIn b) (f .version) version-back in
+            let masked : eqb mask 0 ≡ false = ne-eqb mask 0 (λ z. omega arith) in
+            let part : (length b - headerWidth f) % w ≡ 0 = rw past-length (mul-mod-right w (length ks)) in
+            let whole = eq-eqb ((length b - headerWidth f) % w) 0 part in
+            let blank : allZerosIn f (stepsBy f b) (drop (headerWidth f) b) ≡ true = rw count-back (zeros-back ks) in
+            let counted : ltb (f .mostSteps) (stepsBy f b) ≡ false = rw count-back (le-ltb (f .mostSteps) (length ks) few) in
+            rw (long, versioned, masked, whole, blank, counted)
+
+        listed-back : listBy f (sheetBytes f mask ks) ≡ ks
+        listed-back = rw (count-back, past-header) (steps-back ks h)
+
+        pub sheet-back : sheetIn (sheetBytes f mask ks) ≡ sheet mask ks
+        unfolding sheetIn
+        sheet-back = rw (form-back, not-bad, listed-back) (unfold sheetBytes bytesOf in refl)
+
+-- ---- a sheet that is not bad
+
+-- none of "under six bytes, wrong mark, version, mask 0, a part step, non-zero in the two bytes, over 8,000 steps" is so
+pub record Sound (b : List ℕ) : Type 0 where
+  pub head : headerWidth (formIn b) ≤ length b
+  pub mark-there : marked b ≡ true
+  pub version-is : versionIn b ≡ formIn b .version
+  pub some : maskIn b ≡ 0 → ⊥
+  pub whole : (length b - headerWidth (formIn b)) % stepWidth (formIn b) ≡ 0
+  pub blank : allZerosIn (formIn b) (stepsOf b) (drop (headerWidth (formIn b)) b) ≡ true
+  pub within : stepsOf b ≤ formIn b .mostSteps
+  -- nor over what any version may have
+  pub few : stepsOf b ≤ version1 .mostSteps
+
+pub sound : (b : List ℕ) → badSheet b ≡ false → Sound b
+sound b e =
+    let f : Form = formIn b in
+    let short : Bool = ltb (length b) (headerWidth f) in
+    let other : Bool = not (marked b) in
+    let later : Bool = not (eqb (versionIn b) (f .version)) in
+    let none : Bool = eqb (maskIn b) 0 in
+    let part : Bool = not (eqb ((length b - headerWidth f) % stepWidth f) 0) in
+    let loud : Bool = not (allZerosIn f (stepsBy f b) (drop (headerWidth f) b)) in
+    let many : Bool = ltb (f .mostSteps) (stepsBy f b) in
+    let e7 = neither-true (short || other || later || none || part || loud) many e in
+    let e6 = neither-true (short || other || later || none || part) loud (e7 .0) in
+    let e5 = neither-true (short || other || later || none) part (e6 .0) in
+    let e4 = neither-true (short || other || later) none (e5 .0) in
+    let e3 = neither-true (short || other) later (e4 .0) in
+    let e2 = neither-true short other (e3 .0) in
+    let within : stepsOf b ≤ f .mostSteps = ltb-false (f .mostSteps) (stepsBy f b) (e7 .1) in
+    record {
+      head = ltb-false (length b) (headerWidth f) (e2 .0);
+      mark-there = not-false (marked b) (e2 .1);
+      version-is = eqb-true (versionIn b) (f .version) (not-false _ (e3 .1));
+      some = eqb-false (maskIn b) 0 (e4 .1);
+      whole = eqb-true ((length b - headerWidth f) % stepWidth f) 0 (not-false _ (e5 .1));
+      blank = not-false _ (e6 .1);
+      within = within;
+      few = omega (arith, within, most-steps (versionIn b));
+    }
 
 -- ---- and back again
 
-unfoldable pub Bytes : List ℕ → Type 0
-Bytes [] = Unit {0}
-Bytes (x ∷ l) = (x < 256) × Bytes l
+front-held : (n : ℕ) (l : List ℕ) → Holds l 0 (take n l)
+front-held n l = record { pre = []; post = drop n l; long = refl; whole = sym (take-append-drop n l) }
 
-every-byte : (l : List ℕ) → Bytes l → Numbers.Bytes l
-unfolding Bytes
-every-byte l h = record { each = go l h }
-  where
-    go : (l : List ℕ) → Bytes l → (k : ℕ) → getD l k 0 < 256
-    go [] h k = omega arith
-    go (x ∷ l) h zero = h .0
-    go (x ∷ l) h (suc k) = go l (h .1) k
+bytes-past : (n : ℕ) (l : List ℕ) → Bytes l → Bytes (drop n l)
+bytes-past n l bytes = record { each = λ k. rw (getD-drop n l k 0) (bytes .each (n + k)) }
 
-value-held : (k i x y a b c d : ℕ) (l : List ℕ) → let t = k ∷ i ∷ x ∷ y ∷ a ∷ b ∷ c ∷ d ∷ l in Bytes t → be32 (u32At t 4) ≡ a ∷ b ∷ c ∷ d ∷ []
-value-held k i x y a b c d l h =
-    let t : List ℕ = k ∷ i ∷ x ∷ y ∷ a ∷ b ∷ c ∷ d ∷ l in
-    holds-same t (be32 (u32At t 4)) (a ∷ b ∷ c ∷ d ∷ []) 4 (length-bytesOf 4 (u32At t 4)) (number-held t 4 (every-byte t h) 4 (omega arith))
-    (record { pre = k ∷ i ∷ x ∷ y ∷ []; post = l; long = refl; whole = refl })
+module _ (f : Form) where
+  step-held : (l : List ℕ) → Bytes l → stepWidth f ≤ length l → zerosIn f l ≡ true → Holds l 0 (stepBytes f (stepIn f l))
+  step-held l bytes h z =
+      let k : Step = stepIn f l in
+      let v : List ℕ = bytesOf (f .valueBytes) (k .value) in
+      holds-append l (k .kind ∷ k .id ∷ []) (zeros (f .zeroBytes) ++ v) 0 zerosAt refl
+      (holds-append l (k .kind ∷ []) (k .id ∷ []) 0 1 refl (holds-one l 0 (omega arith)) (holds-one l 1 (omega arith)))
+      (holds-append l (zeros (f .zeroBytes)) v zerosAt (f .zeroBytes) (length-zeros (f .zeroBytes))
+      (zeros-held l zerosAt (f .zeroBytes) (omega arith) z)
+      (number-held l (valueAt f) bytes (f .valueBytes) h))
 
-steps-held : (n : ℕ) (l : List ℕ) → Bytes l → length l ≡ 8 * n → allZerosIn n l ≡ true → stepsBytes (stepsIn n l) ≡ l
-unfolding stepsIn stepsBytes allZerosIn Bytes
-steps-held zero [] h e z = refl
-steps-held zero (x ∷ l) h e z = absurd (omega arith)
-steps-held (suc n) [] h e z = absurd (omega arith)
-steps-held (suc n) (k ∷ []) h e z = absurd (omega arith)
-steps-held (suc n) (k ∷ i ∷ []) h e z = absurd (omega arith)
-steps-held (suc n) (k ∷ i ∷ x ∷ []) h e z = absurd (omega arith)
-steps-held (suc n) (k ∷ i ∷ x ∷ y ∷ []) h e z = absurd (omega arith)
-steps-held (suc n) (k ∷ i ∷ x ∷ y ∷ a ∷ []) h e z = absurd (omega arith)
-steps-held (suc n) (k ∷ i ∷ x ∷ y ∷ a ∷ b ∷ []) h e z = absurd (omega arith)
-steps-held (suc n) (k ∷ i ∷ x ∷ y ∷ a ∷ b ∷ c ∷ []) h e z = absurd (omega arith)
-steps-held (suc n) (k ∷ i ∷ x ∷ y ∷ a ∷ b ∷ c ∷ d ∷ l) h e z =
-    let p = and-eq-true-iff (eqb x 0 && eqb y 0) (allZerosIn n l) .0 z in
-    let zs = and-eq-true-iff (eqb x 0) (eqb y 0) .0 (p .0) in
-    let ex : 0 ≡ x = sym (eqb-true x 0 (zs .0)) in
-    let ey : 0 ≡ y = sym (eqb-true y 0 (zs .1)) in
-    let v = value-held k i x y a b c d l h in
-    let r = steps-held n l (h .1 .1 .1 .1 .1 .1 .1 .1) (omega arith) (p .1) in
-    λ j. k ∷ i ∷ ex j ∷ ey j ∷ (v j ++ r j)
+  steps-held : (n : ℕ) (l : List ℕ) → Bytes l → length l ≡ stepWidth f * n → allZerosIn f n l ≡ true → stepsBytes f (stepsIn f n l) ≡ l
+  unfolding stepsIn stepsBytes allZerosIn
+  steps-held zero [] bytes e z = refl
+  steps-held zero (x ∷ l) bytes e z = absurd (omega arith)
+  steps-held (suc n) l bytes e z =
+      let w : ℕ = stepWidth f in
+      let long : length l ≡ w + w * n = e ∙ omega arith in
+      let p = and-eq-true-iff (zerosIn f l) (allZerosIn f n (drop w l)) .0 z in
+      let same : length (stepBytes f (stepIn f l)) ≡ length (take w l) = step-length f (stepIn f l) ∙ sym (length-take-le w l (omega (arith, long))) in
+      let first = holds-same l (stepBytes f (stepIn f l)) (take w l) 0 same (step-held l bytes (omega (arith, long)) (p .0)) (front-held w l) in
+      let rest = steps-held n (drop w l) (bytes-past w l bytes) (length-drop w l ∙ omega (arith, long)) (p .1) in
+      (λ i. first i ++ rest i) ∙ take-append-drop w l
 
-held-tail : (a b c d f m : ℕ) (l : List ℕ) → Bytes l → badSheet (a ∷ b ∷ c ∷ d ∷ f ∷ m ∷ l) ≡ false
-    → sheetBytes m (stepsIn (stepsOf (a ∷ b ∷ c ∷ d ∷ f ∷ m ∷ l)) l) ≡ a ∷ b ∷ c ∷ d ∷ f ∷ m ∷ l
-unfolding sheetBytes
-held-tail a b c d f m l h e =
-    let x : List ℕ = a ∷ b ∷ c ∷ d ∷ f ∷ m ∷ l in
-    let n : ℕ = stepsOf x in
-    let bad1 : Bool = ltb (length x) 6 in
-    let bad2 : Bool = not (marked x) in
-    let bad3 : Bool = eqb m 0 in
-    let bad4 : Bool = not (eqb ((length x - 6) % 8) 0) in
-    let bad5 : Bool = not (allZerosIn n l) in
-    let e5 = neither-true (bad1 || bad2 || bad3 || bad4 || bad5) (ltb 8000 n) e .0 in
-    let e4 = neither-true (bad1 || bad2 || bad3 || bad4) bad5 e5 in
-    let e3 = neither-true (bad1 || bad2 || bad3) bad4 (e4 .0) in
-    let e2 = neither-true (bad1 || bad2) bad3 (e3 .0) .0 in
-    let part : (length x - 6) % 8 ≡ 0 = eqb-true _ 0 (not-false _ (e3 .1)) in
-    let zeros : allZerosIn n l ≡ true = not-false _ (e4 .1) in
-    let k4 = and-eq-true-iff (eqb a 65 && eqb b 82 && eqb c 83 && eqb d 0) (eqb f 1) .0 (not-false _ (neither-true bad1 bad2 e2 .1)) in
-    let k3 = and-eq-true-iff (eqb a 65 && eqb b 82 && eqb c 83) (eqb d 0) .0 (k4 .0) in
-    let k2 = and-eq-true-iff (eqb a 65 && eqb b 82) (eqb c 83) .0 (k3 .0) in
-    let k1 = and-eq-true-iff (eqb a 65) (eqb b 82) .0 (k2 .0) in
-    let ea : 65 ≡ a = sym (eqb-true a 65 (k1 .0)) in
-    let eb : 82 ≡ b = sym (eqb-true b 82 (k1 .1)) in
-    let ec : 83 ≡ c = sym (eqb-true c 83 (k2 .1)) in
-    let ed : 0 ≡ d = sym (eqb-true d 0 (k3 .1)) in
-    let ef : 1 ≡ f = sym (eqb-true f 1 (k4 .1)) in
-    let r = steps-held n l h (omega arith) zeros in
-    λ j. ea j ∷ eb j ∷ ec j ∷ ed j ∷ ef j ∷ m ∷ r j
+mark-held : (b : List ℕ) → 3 ≤ length b → marked b ≡ true → Holds b 0 mark
+mark-held b h e =
+    let m = and-eq-true-iff (eqb (getD b 0 0) 65 && eqb (getD b 1 0) 82) (eqb (getD b 2 0) 83) .0 e in
+    let n = and-eq-true-iff (eqb (getD b 0 0) 65) (eqb (getD b 1 0) 82) .0 (m .0) in
+    let one : Holds b 0 (65 ∷ []) = rw (eqb-true (getD b 0 0) 65 (n .0)) at (holds-one b 0 (omega arith)) in
+    let two : Holds b 1 (82 ∷ []) = rw (eqb-true (getD b 1 0) 82 (n .1)) at (holds-one b 1 (omega arith)) in
+    let three : Holds b 2 (83 ∷ []) = rw (eqb-true (getD b 2 0) 83 (m .1)) at (holds-one b 2 (omega arith)) in
+    holds-append b (65 ∷ []) (82 ∷ 83 ∷ []) 0 1 refl one (holds-append b (82 ∷ []) (83 ∷ []) 1 1 refl two three)
+
+-- the steps past the header, written, are the bytes past it
+list-held : (b : List ℕ) → Bytes b → Sound b → stepsBytes (formIn b) (listBy (formIn b) b) ≡ drop (headerWidth (formIn b)) b
+list-held b bytes s =
+    let f : Form = formIn b in
+    let n : ℕ = length b - headerWidth f in
+    let long : n ≡ stepWidth f * (n / stepWidth f) = omega (arith, div-add-mod n (stepWidth f), s .whole) in
+    steps-held f (stepsBy f b) (drop (headerWidth f) b) (bytes-past (headerWidth f) b bytes) (length-drop (headerWidth f) b ∙ long) (s .blank)
 
 -- a sheet that is read is its own writing
-pub sheet-held : (b : List ℕ) → Bytes b → badSheet b ≡ false → sheetBytes (getD b 5 0) (stepsIn (stepsOf b) (drop 6 b)) ≡ b
-unfolding Bytes
-sheet-held [] h e = absurd (contrary refl e)
-sheet-held (a ∷ []) h e = absurd (contrary refl e)
-sheet-held (a ∷ b ∷ []) h e = absurd (contrary refl e)
-sheet-held (a ∷ b ∷ c ∷ []) h e = absurd (contrary refl e)
-sheet-held (a ∷ b ∷ c ∷ d ∷ []) h e = absurd (contrary refl e)
-sheet-held (a ∷ b ∷ c ∷ d ∷ f ∷ []) h e = absurd (contrary refl e)
-sheet-held (a ∷ b ∷ c ∷ d ∷ f ∷ m ∷ l) h e = held-tail a b c d f m l (h .1 .1 .1 .1 .1 .1) e
+pub sheet-held : (b : List ℕ) → Bytes b → badSheet b ≡ false → sheetBytes (formIn b) (maskIn b) (listBy (formIn b) b) ≡ b
+unfolding sheetBytes
+sheet-held b bytes e =
+    let s = sound b e in
+    let f : Form = formIn b in
+    let m : ℕ = maskIn b in
+    let rest = list-held b bytes s in
+    let version : Holds b versionAt (be16 (f .version)) = rw (s .version-is) at (number-held b versionAt bytes 2 (omega (arith, s .head))) in
+    let front : Holds b 0 (headerBytes f m) =
+            holds-append b mark (be16 (f .version) ++ (m ∷ [])) 0 versionAt refl (mark-held b (omega (arith, s .head)) (s .mark-there))
+            (holds-append b (be16 (f .version)) (m ∷ []) versionAt 2 (length-be16 (f .version)) version (holds-one b maskAt (omega (arith, s .head)))) in
+    let wide : length (take (headerWidth f) b) ≡ headerWidth f = length-take-le (headerWidth f) b (s .head) in
+    let header = holds-same b (headerBytes f m) (take (headerWidth f) b) 0 (header-length f m ∙ sym wide) front (front-held (headerWidth f) b) in
+    (λ i. header i ++ rest i) ∙ take-append-drop (headerWidth f) b

@@ -5,6 +5,7 @@ use mathlib.Core.List.{List, [], _∷_}
 use Prim.Native.Nat.{ℕ}
 use lib.Count.{ones, onesIn}
 use Rattle.rows.specs.Bytes.{numberAt}
+use Rattle.rows.specs.Tests.{all, allZero}
 use Rattle.rules.specs.Sets.{member, reaches, inside, clash, some, same, plus, unite, heard, above, those}
 use Rattle.rules.specs.Stamps.{sign, compared, greater, sameStamp, greatest}
 use Rattle.rules.specs.Messages.{copies, outgoing}
@@ -14,7 +15,7 @@ use Rattle.rules.specs.Relays.{atGenerator, joinAsked, leaveAsked, timer
 use Rattle.rules.specs.Desks.{begins, readAsked, writeAsked, viewCame, notesPair, notesAck, takesStamp, completes, counted, pairCame, ackCame, deskHears}
 use Rattle.rules.specs.Sending.{place, placeAll, freeIn, waitingIn}
 use Rattle.rules.specs.Steps.{Step, told, roomy, relayDoes, deskDoes, ifAlive, freed, delivers, delivery, dropping, crashing, acts, stepped}
-use Rattle.rules.specs.Sheets.{stepsIn, allZerosIn, sheetIn}
+use Rattle.rules.specs.Sheets.{formOf, stepsIn, allZerosIn, sheetIn}
 use Rattle.rules.specs.Runs.{outcomes, lastWorld, sum, digits, line, stepLines, printed, rehearsed}
 
 -- the record of a run, and that of a sheet, with all that they are made of in sight
@@ -23,7 +24,7 @@ unfolding crashedRelay crashedDesk ones onesIn inside clash some same plus unite
 recorded mask ks = printed mask ks
 
 unfoldable pub rehearsal-of : List ℕ → List ℕ
-unfolding rehearsed sheetIn stepsIn numberAt allZerosIn recorded
+unfolding rehearsed sheetIn formOf stepsIn numberAt allZerosIn allZero all recorded
 rehearsal-of b = rehearsed b
 
 -- document 01's worked example, byte by byte
