@@ -57,12 +57,12 @@ module _ (f : Form) where
       let z : List ℕ = zeros (f .zeroBytes) in
       let v : List ℕ = bytesOf (f .valueBytes) (k .value) in
       let at : Holds (stepBytes f k ++ r) (valueAt f) v =
-              record {
-                pre = k .kind ∷ k .id ∷ z;
-                post = r;
-                long = omega (arith, length-zeros (f .zeroBytes));
-                whole = ap (λ (l : List ℕ). k .kind ∷ k .id ∷ l) (append-assoc z v r);
-              } in
+      record {
+        pre = k .kind ∷ k .id ∷ z;
+        post = r;
+        long = omega (arith, length-zeros (f .zeroBytes));
+        whole = ap (λ (l : List ℕ). k .kind ∷ k .id ∷ l) (append-assoc z v r);
+      } in
       λ i. record { kind = k .kind; id = k .id; value = holds-number (f .valueBytes) (stepBytes f k ++ r) (valueAt f) (k .value) (h .value) at i }
 
   zeros-there : (k : Step) (r : List ℕ) → zerosIn f (stepBytes f k ++ r) ≡ true
@@ -120,8 +120,10 @@ module _ (f : Form) where
       version-back : versionIn (sheetBytes f mask ks) ≡ f .version
       unfolding sheetBytes
       version-back =
+          let v : List ℕ = be16 (f .version) in
+          let whole = ap (λ (l : List ℕ). mark ++ l) (append-assoc v (mask ∷ []) (stepsBytes f ks)) in
           holds-u16 (sheetBytes f mask ks) versionAt (f .version) (known .number)
-          (record { pre = mark; post = mask ∷ stepsBytes f ks; long = refl; whole = ap (λ (l : List ℕ). mark ++ l) (append-assoc (be16 (f .version)) (mask ∷ []) (stepsBytes f ks)) })
+          (record { pre = mark; post = mask ∷ stepsBytes f ks; long = refl; whole = whole })
 
       form-back : formIn (sheetBytes f mask ks) ≡ f
       form-back = ap formOf version-back ∙ known .told
@@ -222,14 +224,15 @@ module _ (f : Form) where
       let rest = steps-held n (drop w l) (bytes-past w l bytes) (length-drop w l ∙ omega (arith, long)) (p .1) in
       (λ i. first i ++ rest i) ∙ take-append-drop w l
 
-mark-held : (b : List ℕ) → 3 ≤ length b → marked b ≡ true → Holds b 0 mark
+mark-held : (b : List ℕ) → versionAt ≤ length b → marked b ≡ true → Holds b 0 mark
 mark-held b h e =
-    let m = and-eq-true-iff (eqb (getD b 0 0) 65 && eqb (getD b 1 0) 82) (eqb (getD b 2 0) 83) .0 e in
-    let n = and-eq-true-iff (eqb (getD b 0 0) 65) (eqb (getD b 1 0) 82) .0 (m .0) in
-    let one : Holds b 0 (65 ∷ []) = rw (eqb-true (getD b 0 0) 65 (n .0)) at (holds-one b 0 (omega arith)) in
-    let two : Holds b 1 (82 ∷ []) = rw (eqb-true (getD b 1 0) 82 (n .1)) at (holds-one b 1 (omega arith)) in
-    let three : Holds b 2 (83 ∷ []) = rw (eqb-true (getD b 2 0) 83 (m .1)) at (holds-one b 2 (omega arith)) in
-    holds-append b (65 ∷ []) (82 ∷ 83 ∷ []) 0 1 refl one (holds-append b (82 ∷ []) (83 ∷ []) 1 1 refl two three)
+    let is : ℕ → Bool = λ k. eqb (getD b k 0) (getD mark k 0) in
+    let both = and-eq-true-iff (is 0 && is 1) (is 2) .0 e in
+    let first = and-eq-true-iff (is 0) (is 1) .0 (both .0) in
+    holds-append b _ _ 0 1 refl (one 0 (omega arith) (first .0)) (holds-append b _ _ 1 1 refl (one 1 (omega arith) (first .1)) (one 2 (omega arith) (both .1)))
+  where
+    one : (k : ℕ) → k < versionAt → eqb (getD b k 0) (getD mark k 0) ≡ true → Holds b k (getD mark k 0 ∷ [])
+    one k below t = rw (eqb-true (getD b k 0) (getD mark k 0) t) at (holds-one b k (omega arith))
 
 -- the steps past the header, written, are the bytes past it
 list-held : (b : List ℕ) → Bytes b → Sound b → stepsBytes (formIn b) (listBy (formIn b) b) ≡ drop (headerWidth (formIn b)) b
@@ -249,8 +252,8 @@ sheet-held b bytes e =
     let rest = list-held b bytes s in
     let version : Holds b versionAt (be16 (f .version)) = rw (s .version-is) at (number-held b versionAt bytes 2 (omega (arith, s .head))) in
     let front : Holds b 0 (headerBytes f m) =
-            holds-append b mark (be16 (f .version) ++ (m ∷ [])) 0 versionAt refl (mark-held b (omega (arith, s .head)) (s .mark-there))
-            (holds-append b (be16 (f .version)) (m ∷ []) versionAt 2 (length-be16 (f .version)) version (holds-one b maskAt (omega (arith, s .head)))) in
+    holds-append b mark (be16 (f .version) ++ (m ∷ [])) 0 versionAt refl (mark-held b (omega (arith, s .head)) (s .mark-there))
+    (holds-append b (be16 (f .version)) (m ∷ []) versionAt 2 (length-be16 (f .version)) version (holds-one b maskAt (omega (arith, s .head)))) in
     let wide : length (take (headerWidth f) b) ≡ headerWidth f = length-take-le (headerWidth f) b (s .head) in
     let header = holds-same b (headerBytes f m) (take (headerWidth f) b) 0 (header-length f m ∙ sym wide) front (front-held (headerWidth f) b) in
     (λ i. header i ++ rest i) ∙ take-append-drop (headerWidth f) b

@@ -7,7 +7,7 @@ use native.Mathlib.Omega.{arith}
 use lib.ListN.{length, length-map}
 use borrow.Author.Tests.{eq-eqb}
 use Rattle.rules.specs.declared.Step.{Step}
-use Rattle.rules.specs.Sheets.{written}
+use Rattle.rules.specs.Sheets.{version1, written}
 use Rattle.sheet.specs.Writing.{listed, kindsOf, idsOf, valuesOf, unequal, ruled}
 use Rattle.sheet.proofs.Writing.{same-lengths}
 
@@ -53,6 +53,6 @@ slices-equal ks =
     rw (eq-eqb (length (idsOf ks)) (length (kindsOf ks)) (i ∙ sym n), eq-eqb (length (valuesOf ks)) (length (kindsOf ks)) (v ∙ sym n))
 
 -- so what is ruled of them is what the rules say of the list
-pub ruled-list : (buffer : List ℕ) (mask : ℕ) (ks : List Step) → ruled buffer mask (kindsOf ks) (idsOf ks) (valuesOf ks) ≡ written buffer mask ks
+pub ruled-list : (buffer : List ℕ) (mask : ℕ) (ks : List Step) → ruled buffer mask (kindsOf ks) (idsOf ks) (valuesOf ks) ≡ written version1 buffer mask ks
 unfolding ruled
 ruled-list buffer mask ks = rw (slices-equal ks, listed-back ks)

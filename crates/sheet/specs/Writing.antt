@@ -6,7 +6,7 @@ use lib.Dec.{eqb}
 use lib.ListN.{length}
 use Rattle.rules.specs.Sets.{if_then_else_, _||_}
 use Rattle.rules.specs.declared.Step.{Step}
-use Rattle.rules.specs.Sheets.{Written as Ruling, bad-sheet, no-room, wrote, sheetBytes, written}
+use Rattle.rules.specs.Sheets.{version1, Written as Ruling, bad-sheet, no-room, wrote, sheetBytes, written}
 use Rattle.sheet.specs.declared.Written.{Written}
 use Rattle.sheet.specs.declared.Written.the-variants.{Done, BadSheet, NoRoom}
 
@@ -30,9 +30,9 @@ valuesOf ks = map (λ (k : Step). k .value) ks
 abbrev pub unequal : List ℕ → List ℕ → List ℕ → Bool
 unequal kinds ids values = not (eqb (length ids) (length kinds)) || not (eqb (length values) (length kinds))
 
--- three of other lengths are no list of steps: BAD SHEET
+-- a list is written as a sheet of version 1; three of other lengths are no list of steps: BAD SHEET
 unfoldable pub ruled : List ℕ → ℕ → List ℕ → List ℕ → List ℕ → Ruling
-ruled buf mask kinds ids values = if unequal kinds ids values then bad-sheet else written buf mask (listed kinds ids values)
+ruled buf mask kinds ids values = if unequal kinds ids values then bad-sheet else written version1 buf mask (listed kinds ids values)
 
 -- how many bytes the sheet has that is written, and 0 where none is
 abbrev pub sizeIn : ℕ → Ruling → ℕ
@@ -41,7 +41,7 @@ sizeIn n no-room = 0
 sizeIn n (wrote l) = n
 
 unfoldable pub ruledSize : List ℕ → ℕ → List ℕ → List ℕ → List ℕ → ℕ
-ruledSize buf mask kinds ids values = sizeIn (length (sheetBytes mask (listed kinds ids values))) (ruled buf mask kinds ids values)
+ruledSize buf mask kinds ids values = sizeIn (length (sheetBytes version1 mask (listed kinds ids values))) (ruled buf mask kinds ids values)
 
 -- the buffer that a ruling leaves of b
 abbrev pub bufferOf : List ℕ → Ruling → List ℕ

@@ -3,27 +3,40 @@ use rows::byte_at;
 use rows::has_room;
 use rows::is_zero;
 use rows::put_fields;
+use rows::read_u16;
 use rows::read_u32;
 use rules::Step;
 ghost use mathlib.Core.Path.{_≡_};
-ghost use mathlib.Core.List.{[], _∷_, _++_};
-ghost use Prim.Native.Nat.{_+_, _*_, _≤_};
+ghost use Prim.Native.Nat.{_≤_};
 ghost use lib.ListN.{length, drop};
 ghost use Rattle.rows.specs.Bytes.{placed};
-ghost use Rattle.rules.specs.Sheets.{mark, marked, allZerosIn, stepBytes, stepsBytes, number};
-ghost use Rattle.sheet.specs.Reading.{checkOf, stepAt, afterOf};
+ghost use Rattle.rules.specs.Sheets.{version1, marked, headerWidth, headerBytes, allZerosIn, stepBytes, stepsBytes, sheetWidth, number};
+ghost use Rattle.sheet.specs.Reading.{checkOf, frontOf, stepAt, afterOf};
 ghost use Rattle.sheet.specs.Writing.{listed, ruled, ruledSize, bufferOf, numberOf, sizeOf};
 
 pub mod reader; // a sheet's bytes and a position, moved on step by step
 
-// "the three bytes `ARS`, version 0x0001"
-const MARK: [u8; 5] = [65, 82, 83, 0, 1];
+// The header: "the three bytes `ARS`, version 0x0001 [..], one byte of start mask". Where its version and its mask stand, and the first step.
+const MARK: [u8; 3] = [65, 82, 83];
 
-// Mark, version and mask; one step; "over 8,000 steps"
+const VERSION: u16 = 1;
+
+const VERSION_AT: usize = 3;
+
+const MASK_AT: usize = 5;
+
 pub const HEAD: usize = 6;
 
+// A step of version 1: "8 bytes a step: kind, id, two zero bytes, value". Where its zero bytes stand, and how many; where its value stands.
 const STEP: usize = 8;
 
+const ZEROS_AT: usize = 2;
+
+const ZEROS: usize = 2;
+
+const VALUE_AT: usize = 4;
+
+// "over 8,000 steps"
 const MOST: usize = 8000;
 
 pub struct Sheet {
@@ -53,22 +66,18 @@ const REFUSED: Sheet = Sheet {
 fn is_marked(b: &[u8]) -> bool
     ensures { λ r. ⌜ r ≡ marked (now (b .entry)) ⌝ }
 {
-    (byte_at(b, 0) == MARK[0])
-        & (byte_at(b, 1) == MARK[1])
-        & (byte_at(b, 2) == MARK[2])
-        & (byte_at(b, 3) == MARK[3])
-        & (byte_at(b, 4) == MARK[4])
+    (byte_at(b, 0) == MARK[0]) & (byte_at(b, 1) == MARK[1]) & (byte_at(b, 2) == MARK[2])
 }
 
 // "non-zero in the two bytes", of each step
 fn is_blank(b: &[u8], steps: usize) -> bool
-    requires { ⌜ 6 + 8 * steps ≤ length (now b) ⌝ }
-    ensures { λ r. ⌜ r ≡ allZerosIn steps (drop 6 (now (b .entry))) ⌝ }
+    requires { ⌜ sheetWidth version1 steps ≤ length (now b) ⌝ }
+    ensures { λ r. ⌜ r ≡ allZerosIn version1 steps (drop (headerWidth version1) (now (b .entry))) ⌝ }
 {
     let mut at = HEAD;
     let mut left = steps;
     while 0 < left {
-        if !is_zero(b, at + 2, 2) {
+        if !is_zero(b, at + ZEROS_AT, ZEROS) {
             return false;
         }
         at += STEP;
@@ -87,7 +96,10 @@ pub fn check(b: &[u8]) -> Sheet
     if !is_marked(b) {
         return REFUSED;
     }
-    let mask = byte_at(b, 5);
+    if read_u16(b, VERSION_AT) != VERSION {
+        return REFUSED;
+    }
+    let mask = byte_at(b, MASK_AT);
     if mask == 0 {
         return REFUSED;
     }
@@ -108,7 +120,14 @@ pub fn check(b: &[u8]) -> Sheet
     }
 }
 
-// The step in the eight bytes at a position.
+// The position of the first step. Every header has as many bytes.
+fn front(b: &[u8]) -> usize
+    ensures { λ r. ⌜ r ≡ frontOf (now (b .entry)) ⌝ }
+{
+    HEAD
+}
+
+// The step at a position. Every sheet has the steps of version 1, so their width is a constant.
 pub fn step_at(b: &[u8], at: usize) -> Found
     ensures { λ r. ⌜ r ≡ stepAt (now (b .entry)) at ⌝ }
 {
@@ -117,7 +136,7 @@ pub fn step_at(b: &[u8], at: usize) -> Found
     }
     let kind = byte_at(b, at);
     let id = byte_at(b, at + 1);
-    let value = read_u32(b, at + 4);
+    let value = read_u32(b, at + VALUE_AT);
     Found::At(Step { kind, id, value })
 }
 
@@ -132,15 +151,14 @@ pub fn after(b: &[u8], at: usize) -> usize
 }
 
 fn put_head(buf: &mut [u8], mask: u8)
-    ensures { λ _. ⌜ now (buf .exit) ≡ placed (now (buf .entry)) 0 (mark ++ (mask ∷ [])) ⌝ }
+    ensures { λ _. ⌜ now (buf .exit) ≡ placed (now (buf .entry)) 0 (headerBytes version1 mask) ⌝ }
 {
-    let widths = [1u8, 1, 1, 1, 1, 1];
+    let widths = [1u8, 1, 1, 2, 1];
     let xs = [
         MARK[0] as u32,
         MARK[1] as u32,
         MARK[2] as u32,
-        MARK[3] as u32,
-        MARK[4] as u32,
+        VERSION as u32,
         mask as u32,
     ];
     put_fields(buf, 0, &widths, &xs);
@@ -148,7 +166,7 @@ fn put_head(buf: &mut [u8], mask: u8)
 
 // "8 bytes a step: kind, id, two zero bytes, value"
 fn put_step(buf: &mut [u8], at: usize, step: Step)
-    ensures { λ _. ⌜ now (buf .exit) ≡ placed (now (buf .entry)) at (stepBytes step) ⌝ }
+    ensures { λ _. ⌜ now (buf .exit) ≡ placed (now (buf .entry)) at (stepBytes version1 step) ⌝ }
 {
     let widths = [1u8, 1, 2, 4];
     let xs = [step.kind as u32, step.id as u32, 0, step.value];
@@ -157,8 +175,9 @@ fn put_step(buf: &mut [u8], at: usize, step: Step)
 
 fn put_steps(buf: &mut [u8], n: usize, kinds: &[u8], ids: &[u8], values: &[u32])
     requires { ⌜ n ≡ length (listed (now kinds) (now ids) (now values)) ⌝ }
-    requires { ⌜ 6 + 8 * n ≤ length (now buf) ⌝ }
-    ensures { λ _. ⌜ now (buf .exit) ≡ placed (now (buf .entry)) 6 (stepsBytes (listed (now (kinds .entry)) (now (ids .entry)) (now (values .entry)))) ⌝ }
+    requires { ⌜ sheetWidth version1 n ≤ length (now buf) ⌝ }
+    ensures { λ _. ⌜ now (buf .exit)
+        ≡ placed (now (buf .entry)) (headerWidth version1) (stepsBytes version1 (listed (now (kinds .entry)) (now (ids .entry)) (now (values .entry)))) ⌝ }
 {
     let mut at = HEAD;
     let mut i = 0;
@@ -187,7 +206,7 @@ pub fn write(buf: &mut [u8], mask: u8, kinds: &[u8], ids: &[u8], values: &[u32])
     if unequal | (mask == 0) | (MOST < n) {
         return Written::BadSheet;
     }
-    let size = HEAD + n * STEP;
+    let size = HEAD + STEP * n;
     if buf.len() < size {
         return Written::NoRoom;
     }

@@ -1,10 +1,10 @@
 // "It is read from the front one step at a time": a reader holds the sheet's bytes and a position. `step_at` and `after` do the work on a plain
 // slice and a number. The functions over `Reader` are thin: a struct that holds a reference is proved by hand.
 ghost use mathlib.Core.Path.{_≡_};
-ghost use Rattle.sheet.specs.Reading.{stepAt, afterOf, takenAt};
+ghost use Rattle.sheet.specs.Reading.{frontOf, stepAt, afterOf, takenAt};
 use super::Found;
-use super::HEAD;
 use super::after;
+use super::front;
 use super::step_at;
 
 pub struct Reader<'a> {
@@ -20,9 +20,10 @@ pub struct Taken {
 
 // At the front: the first step.
 pub fn new<'a>(sheet: &'a [u8]) -> Reader<'a>
-    ensures { λ r. ⌜ (r .sheet ≡ sheet .entry) × (r .at ≡ 6) ⌝ }
+    ensures { λ r. ⌜ (r .sheet ≡ sheet .entry) × (r .at ≡ frontOf (now (sheet .entry))) ⌝ }
 {
-    Reader { sheet, at: HEAD }
+    let at = front(sheet);
+    Reader { sheet, at }
 }
 
 // The step at the reader's position, or the end.

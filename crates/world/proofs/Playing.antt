@@ -18,7 +18,7 @@ use Rattle.rules.specs.Steps.{Outcome, refusal, done, after, report, stepped}
 use Rattle.rules.specs.WellFormed.{wellFormed}
 use Rattle.layout.specs.Image.{image, worldAt, goodBytes}
 use Rattle.layout.specs.Lent.{Lent, left, lentStep, lentStart}
-use Rattle.rules.specs.Sheets.{Sheet, bad, sheet, sheetIn, badSheet, stepsIn, stepsOf}
+use Rattle.rules.specs.Sheets.{Sheet, bad, sheet, sheetIn, badSheet, stepsIn, stepsOf, formIn}
 use Rattle.rules.specs.Runs.{outcomes, lastWorld, sum, deliveredBy, droppedBy, answer, fields, digits, line, stepLine, stepLines, longest, printed, startOf, endOf, badOf, rehearsal, rehearsed}
 use Rattle.rules.proofs.Counts.{places-all, run-few, sent-is-sum}
 use Rattle.rules.proofs.Starts.{start-good}
@@ -212,8 +212,8 @@ module _ (b : List ℕ) (s : checked.Sheet) (e : s ≡ checkOf b) where
   found-good : s .bad ≡ false → sheetIn b ≡ sheet (s .mask) (stepsFrom b 6)
   unfolding readOf
   found-good t =
-      let read : sheetIn b ≡ sheet (s .mask) (stepsIn (s .steps) (drop 6 b)) = sym (rw t at (ap (λ (x : checked.Sheet). readOf x b) e ∙ check-reads b)) in
-      read ∙ ap (sheet (s .mask)) (sym (front b (s .mask) (stepsIn (s .steps) (drop 6 b)) (accepted b (s .mask) (stepsIn (s .steps) (drop 6 b)) read)))
+      let read : sheetIn b ≡ sheet (s .mask) (stepsIn (formIn b) (s .steps) (drop 6 b)) = sym (rw t at (ap (λ (x : checked.Sheet). readOf x b) e ∙ check-reads b)) in
+      read ∙ ap (sheet (s .mask)) (sym (front b (s .mask) (stepsIn (formIn b) (s .steps) (drop 6 b)) (accepted b (s .mask) (stepsIn (formIn b) (s .steps) (drop 6 b)) read)))
 
   pub found-facts : s .bad ≡ false → (badSheet b ≡ false) × (s .mask ≡ getD b 5 0)
   found-facts t =

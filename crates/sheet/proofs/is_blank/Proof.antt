@@ -1,12 +1,13 @@
 -- `sheet::is_blank` meets its contract. The steps that are left decide; the measure is how many there are. Assumes nothing.
 use mathlib.Core.Path.{refl}
 use borrow.Author.Needs.{needs}
+use Rattle.rules.specs.Sheets.{version1}
 use Rattle.sheet.proofs.Reading.{Left, left-fails, left-more, left-none}
 use Rattle.sheet.proofs.is_blank.Statement.{statement}
 use Rattle.sheet.proofs.is_blank.Tie as tie
 
 abbrev Inv-loop : tie.InvT-loop
-Inv-loop b steps at₀ left₀ at left = Left b steps at left
+Inv-loop b steps at₀ left₀ at left = Left version1 b steps at left
 
 abbrev μ-loop : tie.MeasureT-loop
 μ-loop b steps at₀ left₀ at left = left

@@ -2,6 +2,7 @@
 use mathlib.Core.Path.{ap, _∙_}
 use borrow.Author.Needs.{needs}
 use Rattle.rows.specs.Bytes.{placed}
+use Rattle.rules.specs.Sheets.{version1}
 use Rattle.sheet.proofs.Writing.{step-bytes}
 use Rattle.sheet.proofs.put_step.Statement.{statement}
 use Rattle.sheet.proofs.put_step.Tie as tie
@@ -9,7 +10,7 @@ use Rattle.sheet.proofs.put_step.Tie as tie
 returns : tie.Need-returns
 returns c =
     let step = c .before .before .before .before .before .before .struct-known2 .given in
-    c .before .before .put-fields .ensures ∙ ap (placed _ _) (step-bytes _ (step .0) (step .1 .0))
+    c .before .before .put-fields .ensures ∙ ap (placed _ _) (step-bytes version1 _ (step .0) (step .1 .0))
 
 pub put-step-spec : {M : Type 1} → statement M
 put-step-spec =

@@ -3,13 +3,14 @@ use Prim.Native.Nat.{_-_, _<_}
 use native.Mathlib.Omega.{arith}
 use lib.ListN.{length}
 use borrow.Author.Needs.{needs}
+use Rattle.rules.specs.Sheets.{version1}
 use Rattle.sheet.specs.Writing.{listed}
 use Rattle.sheet.proofs.Writing.{listed-length, Left, left-all, left-more, left-none}
 use Rattle.sheet.proofs.put_steps.Statement.{statement}
 use Rattle.sheet.proofs.put_steps.Tie as tie
 
 abbrev Inv-loop : tie.InvT-loop
-Inv-loop buf₀ n kinds ids values at₀ i₀ buf at i = Left (listed kinds ids values) buf₀ buf at i
+Inv-loop buf₀ n kinds ids values at₀ i₀ buf at i = Left version1 (listed kinds ids values) buf₀ buf at i
 
 abbrev μ-loop : tie.MeasureT-loop
 μ-loop buf₀ n kinds ids values at₀ i₀ buf at i = n - i

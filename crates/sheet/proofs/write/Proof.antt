@@ -4,6 +4,7 @@ use Prim.Native.Nat.{_≤_}
 use native.Mathlib.Omega.{arith}
 use lib.ListN.{length}
 use borrow.Author.Needs.{needs}
+use Rattle.rules.specs.Sheets.{version1}
 use Rattle.sheet.specs.Writing.{ruledSize}
 use Rattle.sheet.proofs.Writing.{bad, few, counted, roomless, done, left}
 use Rattle.sheet.proofs.write.Statement.{statement}
@@ -16,7 +17,7 @@ returns c =
     let e = bad (a .buf .now) (a .mask) (a .kinds .now) (a .ids .now) (a .values .now) (c .if1 .taken) in
     ((rw e, rw e), rw e)
 
-few-steps : (c : tie.Else1) → length (c .before .before .before .before .before .args .kinds .now) ≤ 8000
+few-steps : (c : tie.Else1) → length (c .before .before .before .before .before .args .kinds .now) ≤ version1 .mostSteps
 few-steps c =
     let a = c .before .before .before .before .before .args in
     few (a .buf .now) (a .mask) (a .kinds .now) (a .ids .now) (a .values .now) (c .if1 .left)
