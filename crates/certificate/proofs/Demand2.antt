@@ -18,7 +18,8 @@ use Rattle.rules.specs.Steps.{Outcome, refusal, done, after, report, stepped}
 use Rattle.layout.specs.Layout.{worldWidth}
 use Rattle.layout.specs.Image.{placeRow, image, goodBytes}
 use Rattle.layout.specs.Lent.{Lent, left, lentStep}
-use Rattle.rules.specs.Sheets.{stepsIn, allZerosIn, sheet, sheetIn}
+use Rattle.rows.specs.Tests.{all, allZero}
+use Rattle.rules.specs.Sheets.{formOf, stepsIn, allZerosIn, sheet, sheetIn, version1}
 use Rattle.rules.specs.Runs.{longest, outcomes, lastWorld, sentBy, deliveredBy, droppedBy, sum, answer, fields, stepLines, printed, startOf, endOf}
 use Rattle.rules.specs.Examples.{recorded}
 use Rattle.rules.proofs.Kept.{good-facts, step-keeps, always-good}
@@ -282,7 +283,7 @@ after-all a b c e = sym (drop-append-seam a b) ∙ ap (drop (length a)) e ∙ dr
 in-order : (a b c t : List ℕ) → (a ++ (b ++ c)) ++ t ≡ a ++ (b ++ (c ++ t))
 in-order a b c t = append-assoc a (b ++ c) t ∙ ap (λ (l : List ℕ). a ++ l) (append-assoc b c t)
 
-module _ (mask : ℕ) (ks : List Step) (some : 0 < mask) (byte : mask < 256) (few : length ks ≤ 8000) where
+module _ (mask : ℕ) (ks : List Step) (some : 0 < mask) (byte : mask < 256) (few : length ks ≤ version1 .mostSteps) where
   abbrev os : List Outcome
   os = outcomes (start mask) ks
 
@@ -328,7 +329,7 @@ module _ (mask : ℕ) (ks : List Step) (some : 0 < mask) (byte : mask < 256) (fe
       totals-tied sent delivered dropped waiting t (drop (length (printed mask ks)) out) small (same ∙ d .rehearsed b world out mask ks e long room .3)
 
 -- no four numbers are the totals of every run: not of a run without a step and of one with a WRITE
-pub invented-totals : (sent delivered dropped waiting : ℕ) → ¬ ((mask : ℕ) (ks : List Step) → 0 < mask → mask < 256 → length ks ≤ 8000 → withTotals mask ks sent delivered dropped waiting ≡ printed mask ks)
+pub invented-totals : (sent delivered dropped waiting : ℕ) → ¬ ((mask : ℕ) (ks : List Step) → 0 < mask → mask < 256 → length ks ≤ version1 .mostSteps → withTotals mask ks sent delivered dropped waiting ≡ printed mask ks)
 unfolding recorded
 invented-totals sent delivered dropped waiting p =
     let none : endOf sent delivered dropped waiting ≡ endOf 0 0 0 0 = ap (drop 8) (p 1 [] (lit< tt) (lit< tt) (lit≤ tt)) in
@@ -338,7 +339,7 @@ invented-totals sent delivered dropped waiting p =
 -- the same of `world::run::rehearse`: a program that lays the record of every sheet with these four totals does not keep its promise, though it may do as it likes
 -- with a world of another length and without room
 module _ (sent delivered dropped waiting : ℕ) (small : Small sent delivered dropped waiting) where
-  laid-counted : (b : List ℕ) (ks : List Step) → sheetIn b ≡ sheet 1 ks → length ks ≤ 8000
+  laid-counted : (b : List ℕ) (ks : List Step) → sheetIn b ≡ sheet 1 ks → length ks ≤ version1 .mostSteps
       → ((out : List ℕ) → longest (length ks) ≤ length out → laid out 0 (withTotals 1 ks sent delivered dropped waiting) ≡ recordLeft b one out)
       → sent ≡ sum sentBy (outcomes (start 1) ks)
   laid-counted b ks is few p =
@@ -352,7 +353,7 @@ module _ (sent delivered dropped waiting : ℕ) (small : Small sent delivered dr
 
   pub rehearse-invented : ¬ ((b world out : List ℕ) (mask : ℕ) (ks : List Step) → length world ≡ worldWidth → sheetIn b ≡ sheet mask ks
       → longest (length ks) ≤ length out → laid out 0 (withTotals mask ks sent delivered dropped waiting) ≡ recordLeft b world out)
-  unfolding recorded sheetIn stepsIn allZerosIn numberAt
+  unfolding recorded sheetIn formOf stepsIn allZerosIn allZero all numberAt
   rehearse-invented p =
       let none : sent ≡ 0 = laid-counted blank [] refl (omega arith) (λ out room. p blank one out 1 [] (length-image (start 1)) refl room) in
       let some : sent ≡ 1 =

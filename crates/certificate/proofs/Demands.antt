@@ -20,7 +20,8 @@ use Rattle.rules.specs.WellFormed.{wellFormed}
 use Rattle.layout.specs.Layout.{worldWidth}
 use Rattle.layout.specs.Image.{image, worldAt, goodBytes}
 use Rattle.layout.specs.Lent.{Lent, kept, left, lentStep, lentStart}
-use Rattle.rules.specs.Sheets.{Written, wrote, written, Sheet, sheet, bad, badSheet, stepsOf, stepsIn, sheetIn, sheetBytes}
+use Rattle.rules.specs.Sheets.{Written, wrote, written, Sheet, sheet, bad, version1, formOf, maskIn, formIn, badSheet, stepsOf}
+use Rattle.rules.specs.Sheets.{listBy, sheetIn, sheetBytes, sheetWidth}
 use Rattle.rules.specs.Sheets as sheets
 use Rattle.rules.specs.Runs.{outcomes, lastWorld, answer, printed, longest}
 use Rattle.rules.proofs.Refusals.{number-range, every-answer}
@@ -30,8 +31,9 @@ use Rattle.layout.proofs.World.{good-formed, good-image}
 use Rattle.sheet.specs.declared.Sheet as checked
 use Rattle.sheet.specs.declared.Found.{Found}
 use Rattle.sheet.specs.declared.Found.the-variants.{At, End}
-use Rattle.sheet.specs.Reading.{checkOf, stepsFrom}
+use Rattle.sheet.specs.Reading.{checkOf, frontOf, stepsFrom}
 use Rattle.sheet.specs.Writing.{listed, kindsOf, idsOf, valuesOf, unequal, ruled, ruledSize, sizeIn, bufferOf, numberOf, sizeOf}
+use Rattle.rules.proofs.Sheets.{version1-known, size}
 use Rattle.sheet.proofs.Walk.{accepted, count, front, taken-step, taken-end}
 use Rattle.sheet.proofs.Writing as writing
 use Rattle.sheet.proofs.Slices.{sliced, listed-back, ruled-list}
@@ -125,7 +127,7 @@ module _ (w : List ℕ) (mask : ℕ) where
 
 module _ (b : List ℕ) where
   abbrev checkedBy : Bool → checked.Sheet
-  checkedBy x = if x then record { bad = true; mask = 0; steps = 0 } else record { bad = false; mask = getD b 5 0; steps = stepsOf b }
+  checkedBy x = if x then record { bad = true; mask = 0; steps = 0 } else record { bad = false; mask = maskIn b; steps = stepsOf b }
 
   check-numbered : Numbered (checkNumber (checkOf b)) (checkRows b)
   unfolding checkOf
@@ -144,12 +146,12 @@ module _ (b : List ℕ) where
       go false h = absurd (omega arith)
 
   -- what a check says of an accepted sheet
-  check-accepted : checkOf b .bad ≡ false → (checkOf b .mask ≡ getD b 5 0) × (checkOf b .steps ≡ stepsOf b) × (sheetIn b ≡ sheet (getD b 5 0) (stepsFrom b 6))
+  check-accepted : checkOf b .bad ≡ false → (checkOf b .mask ≡ maskIn b) × (checkOf b .steps ≡ stepsOf b) × (sheetIn b ≡ sheet (maskIn b) (stepsFrom b (frontOf b)))
   unfolding checkOf sheetIn stepsFrom
   check-accepted = go (badSheet b)
     where
-      go : (x : Bool) → checkedBy x .bad ≡ false → (checkedBy x .mask ≡ getD b 5 0) × (checkedBy x .steps ≡ stepsOf b)
-          × ((if x then bad else sheet (getD b 5 0) (stepsIn (stepsOf b) (drop 6 b))) ≡ sheet (getD b 5 0) (stepsIn (stepsOf b) (drop 6 b)))
+      go : (x : Bool) → checkedBy x .bad ≡ false → (checkedBy x .mask ≡ maskIn b) × (checkedBy x .steps ≡ stepsOf b)
+          × ((if x then bad else sheet (maskIn b) (listBy (formIn b) b)) ≡ sheet (maskIn b) (listBy (formIn b) b))
       go true e = absurd (contrary refl e)
       go false e = (refl, refl, refl)
 
@@ -157,20 +159,20 @@ sheet-bad : (b : List ℕ) → sheetIn b ≡ bad → badSheet b ≡ true
 unfolding sheetIn
 sheet-bad b e = go (badSheet b) e
   where
-    go : (x : Bool) → (if x then bad else sheet (getD b 5 0) (stepsIn (stepsOf b) (drop 6 b))) ≡ bad → x ≡ true
+    go : (x : Bool) → (if x then bad else sheet (maskIn b) (listBy (formIn b) b)) ≡ bad → x ≡ true
     go true f = refl
     go false f = let z : _≡_ {A = ℕ} 0 1 = cc in absurd (omega arith)
 
 module _ (buf : List ℕ) (mask : ℕ) (kinds ids values : List ℕ) where
   write-numbered : Numbered (sheets.number (ruled buf mask kinds ids values)) (writeRows buf mask kinds ids values)
-  write-numbered = go (unequal kinds ids values || eqb mask 0 || ltb 8000 (length kinds)) (ltb (length buf) (6 + 8 * length kinds)) refl refl
+  write-numbered = go (unequal kinds ids values || eqb mask 0 || ltb (version1 .mostSteps) (length kinds)) (ltb (length buf) (sheetWidth version1 (length kinds))) refl refl
     where
-      go : (x y : Bool) → unequal kinds ids values || eqb mask 0 || ltb 8000 (length kinds) ≡ x → ltb (length buf) (6 + 8 * length kinds) ≡ y
+      go : (x y : Bool) → unequal kinds ids values || eqb mask 0 || ltb (version1 .mostSteps) (length kinds) ≡ x → ltb (length buf) (sheetWidth version1 (length kinds)) ≡ y
           → Numbered (sheets.number (ruled buf mask kinds ids values)) ((x, BAD-SHEET) ∷ (y, number refusals.no-room) ∷ [])
       go true y e f = rw (writing.bad buf mask kinds ids values e) (record { known = lit≤ tt; first = refl })
-      go false true e f = rw (writing.roomless buf mask kinds ids values e (omega (arith, ltb-true (length buf) (6 + 8 * length kinds) f)))
+      go false true e f = rw (writing.roomless buf mask kinds ids values e (omega (arith, ltb-true (length buf) (sheetWidth version1 (length kinds)) f)))
           (record { known = lit≤ tt; first = refl })
-      go false false e f = rw (← writing.done buf mask kinds ids values e (omega (arith, ltb-false (length buf) (6 + 8 * length kinds) f)) .0)
+      go false false e f = rw (← writing.done buf mask kinds ids values e (omega (arith, ltb-false (length buf) (sheetWidth version1 (length kinds)) f)) .0)
           (record { known = lit≤ tt; first = refl })
 
   ruling-kept : (n : ℕ) (x : Written) → 0 < sheets.number x → (bufferOf buf x ≡ buf) × (sizeIn n x ≡ 0)
@@ -185,7 +187,7 @@ module _ (buf : List ℕ) (mask : ℕ) (kinds ids values : List ℕ) where
 
   -- how many bytes a sheet that is written has
   wrote-size : (l : List ℕ) → ruled buf mask kinds ids values ≡ wrote l
-      → ruledSize buf mask kinds ids values ≡ length (sheetBytes mask (listed kinds ids values))
+      → ruledSize buf mask kinds ids values ≡ length (sheetBytes version1 mask (listed kinds ids values))
   unfolding ruledSize
   wrote-size l e = rw e
 
@@ -376,20 +378,21 @@ module _ (c : Code) (p : Promised c) where
   read-sheet b mask ks e =
       let a = accepted b mask ks e in
       let all = front b mask ks a in
-      read-all (length b) b 6 (omega (arith, ap length all, count b mask ks a)) ∙ all
+      read-all (length b) b (frontOf b) (omega (arith, ap length all, count b mask ks a)) ∙ all
 
   sheet-read : (b : List ℕ) → c .check b .bad ≡ false → (sheetIn b ≡ sheet (c .check b .mask) (readBy c b)) × (c .check b .steps ≡ length (readBy c b))
   sheet-read b h =
       let e = p .check-kept b in
       let a = check-accepted b (sym (ap (λ (s : checked.Sheet). s .bad) e) ∙ h) in
-      let mask-is : c .check b .mask ≡ getD b 5 0 = ap (λ (s : checked.Sheet). s .mask) e ∙ a .0 in
-      let ks-is : readBy c b ≡ stepsFrom b 6 = read-sheet b (getD b 5 0) (stepsFrom b 6) (a .2) in
-      let many : stepsOf b ≡ length (stepsFrom b 6) = count b (getD b 5 0) (stepsFrom b 6) (accepted b (getD b 5 0) (stepsFrom b 6) (a .2)) in
+      let mask-is : c .check b .mask ≡ maskIn b = ap (λ (s : checked.Sheet). s .mask) e ∙ a .0 in
+      let ks-is : readBy c b ≡ stepsFrom b (frontOf b) = read-sheet b (maskIn b) (stepsFrom b (frontOf b)) (a .2) in
+      let many : stepsOf b ≡ length (stepsFrom b (frontOf b)) = count b (maskIn b) (stepsFrom b (frontOf b)) (accepted b (maskIn b) (stepsFrom b (frontOf b)) (a .2)) in
       (rw (mask-is, ks-is) (a .2), ap (λ (s : checked.Sheet). s .steps) e ∙ a .1 ∙ many ∙ ap length (sym ks-is))
 
   sheet-again : (b buf : List ℕ) → Below 256 b → c .check b .bad ≡ false → length b ≤ length buf
       → let ks = readBy c b in let r = c .write buf (c .check b .mask) (kindsOf ks) (idsOf ks) (valuesOf ks) in
       (numberOf r ≡ 0) × (sizeOf r ≡ length b) × (c .write-buf buf (c .check b .mask) (kindsOf ks) (idsOf ks) (valuesOf ks) ≡ b ++ drop (length b) buf)
+  unfolding formOf
   sheet-again b buf each h fits =
       let mask : ℕ = c .check b .mask in
       let ks : List Step = readBy c b in
@@ -398,21 +401,21 @@ module _ (c : Code) (p : Promised c) where
       ruled-list buf mask ks ∙ again b buf mask ks each is fits
       in
       let size : ruledSize buf mask (kindsOf ks) (idsOf ks) (valuesOf ks) ≡ length b =
-      wrote-size buf mask (kindsOf ks) (idsOf ks) (valuesOf ks) _ wrote-is ∙ ap (λ (l : List Step). length (sheetBytes mask l)) (listed-back ks)
+      wrote-size buf mask (kindsOf ks) (idsOf ks) (valuesOf ks) _ wrote-is ∙ ap (λ (l : List Step). length (sheetBytes version1 mask l)) (listed-back ks)
       ∙ ap length (same-bytes b buf mask ks each is)
       in
       let said = p .write-answer buf mask (kindsOf ks) (idsOf ks) (valuesOf ks) in
       (said .0 ∙ ap sheets.number wrote-is, said .1 ∙ size, p .write-left buf mask (kindsOf ks) (idsOf ks) (valuesOf ks) ∙ ap (bufferOf buf) wrote-is)
 
   module _ (buf : List ℕ) (mask : ℕ) (kinds ids values : List ℕ) (some : 0 < mask) (same : length ids ≡ length kinds) (alike : length values ≡ length kinds)
-      (few : length kinds ≤ 8000) (hk : Below 256 kinds) (hi : Below 256 ids) (hv : Below 4294967296 values) (room : 6 + 8 * length kinds ≤ length buf) where
+      (few : length kinds ≤ version1 .mostSteps) (hk : Below 256 kinds) (hi : Below 256 ids) (hv : Below 4294967296 values) (room : sheetWidth version1 (length kinds) ≤ length buf) where
     abbrev steps : List Step
     steps = listed kinds ids values
 
     long : length steps ≡ length kinds
     long = sliced kinds ids values same alike .long
 
-    ruled-is : ruled buf mask kinds ids values ≡ written buf mask steps
+    ruled-is : ruled buf mask kinds ids values ≡ written version1 buf mask steps
     ruled-is =
         let s = sliced kinds ids values same alike in
         ap (λ (l : List ℕ). ruled buf mask l ids values) (sym (s .kinds-are))
@@ -420,20 +423,20 @@ module _ (c : Code) (p : Promised c) where
         ∙ ap (λ (l : List ℕ). ruled buf mask (kindsOf steps) (idsOf steps) l) (sym (s .values-are))
         ∙ ruled-list buf mask steps
 
-    wrote-is : written buf mask steps ≡ wrote (sheetBytes mask steps ++ drop (length (sheetBytes mask steps)) buf)
-    wrote-is = writing.ruling buf mask steps (λ z. omega arith) (omega (arith, long)) (omega (arith, long))
+    wrote-is : written version1 buf mask steps ≡ wrote (sheetBytes version1 mask steps ++ drop (length (sheetBytes version1 mask steps)) buf)
+    wrote-is = writing.ruling version1 buf mask steps (λ z. omega arith) (omega (arith, long)) (omega (arith, long))
 
     abbrev sent : List ℕ
-    sent = take (6 + 8 * length kinds) (c .write-buf buf mask kinds ids values)
+    sent = take (sheetWidth version1 (length kinds)) (c .write-buf buf mask kinds ids values)
 
     sent-is : sheetIn sent ≡ sheet mask steps
     sent-is =
-        let left : c .write-buf buf mask kinds ids values ≡ bufferOf buf (written buf mask steps) =
+        let left : c .write-buf buf mask kinds ids values ≡ bufferOf buf (written version1 buf mask steps) =
         p .write-left buf mask kinds ids values ∙ ap (bufferOf buf) ruled-is
         in
-        ap (λ (l : List ℕ). sheetIn (take (6 + 8 * length kinds) l)) left
-        ∙ ap (λ (n : ℕ). sheetIn (take (6 + 8 * n) (bufferOf buf (written buf mask steps)))) (sym long)
-        ∙ back buf mask steps some (omega (arith, long)) (smalls kinds ids values hk hi hv) (omega (arith, long))
+        ap (λ (l : List ℕ). sheetIn (take (sheetWidth version1 (length kinds)) l)) left
+        ∙ ap (λ (n : ℕ). sheetIn (take (sheetWidth version1 n) (bufferOf buf (written version1 buf mask steps)))) (sym long)
+        ∙ back version1 version1-known buf mask steps some (omega (arith, long)) (smalls version1 kinds ids values hk hi hv) (omega (arith, long))
 
     check-is : c .check sent ≡ record { bad = false; mask = mask; steps = length kinds }
     unfolding checkOf
@@ -442,15 +445,15 @@ module _ (c : Code) (p : Promised c) where
         let n : stepsOf sent ≡ length kinds = count sent mask steps a ∙ long in
         p .check-kept sent ∙ rw (a .good) (λ i. record { bad = false; mask = a .masked i; steps = n i })
 
-    sheet-back : (numberOf (c .write buf mask kinds ids values) ≡ 0) × (sizeOf (c .write buf mask kinds ids values) ≡ 6 + 8 * length kinds)
+    sheet-back : (numberOf (c .write buf mask kinds ids values) ≡ 0) × (sizeOf (c .write buf mask kinds ids values) ≡ sheetWidth version1 (length kinds))
         × (c .check sent ≡ record { bad = false; mask = mask; steps = length kinds })
         × (kindsOf (readBy c sent) ≡ kinds) × (idsOf (readBy c sent) ≡ ids) × (valuesOf (readBy c sent) ≡ values)
     sheet-back =
         let s = sliced kinds ids values same alike in
         let read : readBy c sent ≡ steps = read-sheet sent mask steps sent-is in
         let said = p .write-answer buf mask kinds ids values in
-        let size : ruledSize buf mask kinds ids values ≡ 6 + 8 * length kinds =
-        wrote-size buf mask kinds ids values _ (ruled-is ∙ wrote-is) ∙ writing.size buf mask steps ∙ ap (λ (n : ℕ). 6 + 8 * n) long
+        let size : ruledSize buf mask kinds ids values ≡ sheetWidth version1 (length kinds) =
+        wrote-size buf mask kinds ids values _ (ruled-is ∙ wrote-is) ∙ size version1 mask steps ∙ ap (λ (n : ℕ). sheetWidth version1 n) long
         in (
           said .0 ∙ ap sheets.number (ruled-is ∙ wrote-is),
           said .1 ∙ size,

@@ -52,7 +52,7 @@ use Rattle.generator.specs.Rows.{freshRow, notedRow}
 use Rattle.relay.specs.Fitting.{joinAnswer, timerAnswer, hearsAnswer}
 use Rattle.desk.specs.Replies.{replyNoted}
 use Rattle.image.specs.Parts.{notesBytes, headAt, messageRow, sequenceRowAt, notesRowAt, generatorRowAt, transferRowAt, messageRowAt}
-use Rattle.sheet.specs.Reading.{checkOf, stepAt, afterOf, takenAt}
+use Rattle.sheet.specs.Reading.{checkOf, frontOf, stepAt, afterOf, takenAt}
 use Rattle.sheet.specs.Writing.{ruled, ruledSize, bufferOf, numberOf, sizeOf}
 use Rattle.sheet.specs.declared.Written.{Written}
 use Rattle.sheet.specs.declared.Written.the-variants.{Done, BadSheet, NoRoom}
@@ -400,7 +400,7 @@ sheet-write-left buf mask kinds ids values = by-equation (bufferOf buf (ruled bu
 reader-back : (r s : Reader) → r .sheet ≡ s .sheet → r .at ≡ s .at → r ≡ s
 reader-back r s e f = λ i. record { sheet = e i; at = f i }
 
-pub sheet-new : (sheet : RefT (List ℕ)) → Determined (λ (r : Reader). (r .sheet ≡ sheet) × (r .at ≡ 6))
+pub sheet-new : (sheet : RefT (List ℕ)) → Determined (λ (r : Reader). (r .sheet ≡ sheet) × (r .at ≡ frontOf (now sheet)))
 sheet-new sheet r s e f = reader-back r s (e .0 ∙ sym (f .0)) (e .1 ∙ sym (f .1))
 
 pub sheet-next : (r : Reader) → Determined (λ s. s ≡ stepAt (now (r .sheet)) (r .at))

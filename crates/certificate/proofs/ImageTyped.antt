@@ -18,13 +18,16 @@ use Rattle.layout.specs.Layout.{worldWidth, worldRest}
 use Rattle.layout.specs.Image.{flag, sequenceBytes, pairBytes, pairFields, headBytes, headFields, generatorBytes, generatorFields}
 use Rattle.layout.specs.Image.{transferBytes, transferFields, relayBytes, relayFields, phaseNumber, deskBytes, deskFields}
 use Rattle.layout.specs.Image.{Row, placeRow, rowBytes, rowFields, placeBytes, image, worldTables}
-use Rattle.rules.proofs.Sheets.{Bytes}
 use Rattle.layout.proofs.Fits.{SequenceFits, PairFits, NotesFit, GeneratorFits, TransferFits, RelayFits, DeskFits, RowFits}
 use Rattle.layout.proofs.Widths.{length-image}
 use Rattle.layout.proofs.World.{world-fits}
 use Rattle.certificate.proofs.Typed.{in-u8, every, in-bytes}
 
 -- ---- bytes, and pieces of bytes one after another
+
+Bytes : List ℕ → Type 0
+Bytes [] = Unit {0}
+Bytes (x ∷ l) = (x < 256) × Bytes l
 
 infixr 20 _and_
 data Pieces : List (List ℕ) → Type 0 where

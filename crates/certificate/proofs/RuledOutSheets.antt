@@ -6,11 +6,13 @@ use Prim.Native.Nat.{ℕ, _+_, _-_, _*_, _/_, _%_}
 use lib.Dec.{T, eqb, leb, ltb}
 use lib.ListN.{length, getD, set, take, drop, replicate}
 use denote.Ref.{RefT, now}
-use Rattle.rows.specs.Bytes.{numberAt, run, zeros}
+use Rattle.rows.specs.Bytes.{numberAt, bytesOf, run, zeros}
+use Rattle.rows.specs.Tests.{all, allZero}
 use Rattle.rules.specs.Sets.{if_then_else_}
-use Rattle.rules.specs.Sheets.{mark, stepIn, stepsOf, allZerosIn, badSheet, stepsBytes, sheetBytes, number, written}
+use Rattle.rules.specs.Sheets.{version1, formOf, stepWidth, stepIn, allZerosIn, stepsBytes, mark, maskAt, maskIn, headerWidth}
+use Rattle.rules.specs.Sheets.{stepsOf, badSheet, sheetBytes, number, written}
 use Rattle.rules.specs.Runs.{digits, decimal, line, start-word, bad-word, startOf, endOf, badOf}
-use Rattle.sheet.specs.Reading.{checkOf, stepAt, afterOf, takenAt}
+use Rattle.sheet.specs.Reading.{checkOf, frontOf, stepAt, afterOf, takenAt}
 use Rattle.sheet.specs.Writing.{listed, ruled, ruledSize, bufferOf, numberOf, sizeOf}
 use Rattle.sheet.specs.declared.Sheet.{Sheet}
 use Rattle.sheet.specs.declared.Found.{Found}
@@ -25,18 +27,22 @@ use Rattle.certificate.proofs.Typed.{in-bytes, in-u16, in-u32, in-u32s,
 
 -- ---- sheet
 
+-- the mark and version 0x0001, before the rest of a sheet
+abbrev pub headed : List ℕ → List ℕ
+headed rest = mark ++ (0 ∷ 1 ∷ rest)
+
 abbrev isBad : Sheet → ℕ
 isBad s = truth (s .bad)
 
 -- a sheet that would be good with mask 1
 pub sheet-check-mask-0-accepted : ¬ ((b : List ℕ) → T (in-bytes b)
-    → (if eqb (getD b 5 0) 0 && not (badSheet (set b 5 1)) then record { bad = false; mask = 0; steps = stepsOf b } else checkOf b) ≡ checkOf b)
-unfolding allZerosIn checkOf
-sheet-check-mask-0-accepted p = differ isBad (p (mark ++ (0 ∷ [])) tt) tt
+    → (if eqb (maskIn b) 0 && not (badSheet (set b maskAt 1)) then record { bad = false; mask = 0; steps = stepsOf b } else checkOf b) ≡ checkOf b)
+unfolding allZerosIn allZero all formOf numberAt checkOf
+sheet-check-mask-0-accepted p = differ isBad (p (headed (0 ∷ [])) tt) tt
 
 pub sheet-check-refused-always : ¬ ((b : List ℕ) → T (in-bytes b) → record { bad = true; mask = 0; steps = 0 } ≡ checkOf b)
-unfolding allZerosIn checkOf
-sheet-check-refused-always p = differ isBad (p (mark ++ (1 ∷ [])) tt) tt
+unfolding allZerosIn allZero all formOf numberAt checkOf
+sheet-check-refused-always p = differ isBad (p (headed (1 ∷ [])) tt) tt
 
 abbrev found : Found → ℕ
 found End = 0
@@ -47,29 +53,29 @@ abbrev steps : List ℕ
 steps = 5 ∷ 0 ∷ 0 ∷ 0 ∷ 0 ∷ 0 ∷ 0 ∷ 1 ∷ 5 ∷ 0 ∷ 0 ∷ 0 ∷ 0 ∷ 0 ∷ 0 ∷ 2 ∷ []
 
 pub sheet-step-at-the-front-always : ¬ ((b : List ℕ) (at : ℕ) → T (in-bytes b) → T (in-usize at) → stepAt b 0 ≡ stepAt b at)
-unfolding stepAt numberAt
+unfolding stepAt numberAt formOf
 sheet-step-at-the-front-always p = differ found (p steps 8 tt tt) tt
 
 pub sheet-step-at-low-byte-first : ¬ ((b : List ℕ) (at : ℕ) → T (in-bytes b) → T (in-usize at)
-    → (if leb (at + 8) (length b) then At (record { kind = getD b at 0; id = getD b (at + 1) 0; value = ((getD b (at + 7) 0 * 256 + getD b (at + 6) 0) * 256 + getD b (at + 5) 0) * 256 + getD b (at + 4) 0 }) else End) ≡ stepAt b at)
-unfolding stepAt numberAt
+    → (if leb (at + stepWidth version1) (length b) then At (record { kind = getD b at 0; id = getD b (at + 1) 0; value = ((getD b (at + 7) 0 * 256 + getD b (at + 6) 0) * 256 + getD b (at + 5) 0) * 256 + getD b (at + 4) 0 }) else End) ≡ stepAt b at)
+unfolding stepAt numberAt formOf
 sheet-step-at-low-byte-first p = differ found (p steps 0 tt tt) tt
 
-pub sheet-step-at-past-the-end : ¬ ((b : List ℕ) (at : ℕ) → T (in-bytes b) → T (in-usize at) → At (stepIn (drop at b)) ≡ stepAt b at)
-unfolding stepAt numberAt
+pub sheet-step-at-past-the-end : ¬ ((b : List ℕ) (at : ℕ) → T (in-bytes b) → T (in-usize at) → At (stepIn version1 (drop at b)) ≡ stepAt b at)
+unfolding stepAt numberAt formOf
 sheet-step-at-past-the-end p = differ found (p steps 16 tt tt) tt
 
 pub sheet-after-stays : ¬ ((b : List ℕ) (at : ℕ) → T (in-bytes b) → T (in-usize at) → at ≡ afterOf b at)
-unfolding afterOf
+unfolding afterOf formOf
 sheet-after-stays p = differ itself (p steps 0 tt tt) tt
 
-pub sheet-after-past-the-end : ¬ ((b : List ℕ) (at : ℕ) → T (in-bytes b) → T (in-usize at) → at + 8 ≡ afterOf b at)
-unfolding afterOf
+pub sheet-after-past-the-end : ¬ ((b : List ℕ) (at : ℕ) → T (in-bytes b) → T (in-usize at) → at + stepWidth version1 ≡ afterOf b at)
+unfolding afterOf formOf
 sheet-after-past-the-end p = differ itself (p steps 16 tt tt) tt
 
 -- programs that answer as for the list, which is as long as the shortest of the three
 abbrev sizes : ℕ → List ℕ → List ℕ → List ℕ → ℕ
-sizes mask kinds ids values = length (sheetBytes mask (listed kinds ids values))
+sizes mask kinds ids values = length (sheetBytes version1 mask (listed kinds ids values))
 
 abbrev shortest : List ℕ → ℕ → List ℕ → List ℕ → List ℕ → Written
 shortest buf mask kinds ids values =
@@ -81,38 +87,38 @@ roomFirst buf mask kinds ids values = if ltb (length buf) (sizes mask kinds ids 
 
 pub sheet-write-answer-done-always : ¬ ((buf : List ℕ) (mask : ℕ) (kinds ids values : List ℕ) → T (in-bytes buf) → T (in-u8 mask) → T (in-bytes kinds) → T (in-bytes ids) → T (in-u32s values)
     → (numberOf (Done (sizes mask kinds ids values)) ≡ number (ruled buf mask kinds ids values)) × (sizeOf (Done (sizes mask kinds ids values)) ≡ ruledSize buf mask kinds ids values))
-unfolding stepsBytes sheetBytes written listed ruled
+unfolding stepsBytes sheetBytes written listed ruled bytesOf
 sheet-write-answer-done-always p = differ itself (p [] 1 [] [] [] tt tt tt tt tt .0) tt
 
 pub sheet-write-answer-no-room-before-bad-sheet : ¬ ((buf : List ℕ) (mask : ℕ) (kinds ids values : List ℕ) → T (in-bytes buf) → T (in-u8 mask) → T (in-bytes kinds) → T (in-bytes ids) → T (in-u32s values)
     → (numberOf (roomFirst buf mask kinds ids values) ≡ number (ruled buf mask kinds ids values)) × (sizeOf (roomFirst buf mask kinds ids values) ≡ ruledSize buf mask kinds ids values))
-unfolding stepsBytes sheetBytes written listed ruled
+unfolding stepsBytes sheetBytes written listed ruled bytesOf
 sheet-write-answer-no-room-before-bad-sheet p = differ itself (p [] 0 [] [] [] tt tt tt tt tt .0) tt
 
 -- a kind and an id without a value
 pub sheet-write-answer-the-shortest-counts : ¬ ((buf : List ℕ) (mask : ℕ) (kinds ids values : List ℕ) → T (in-bytes buf) → T (in-u8 mask) → T (in-bytes kinds) → T (in-bytes ids) → T (in-u32s values)
     → (numberOf (shortest buf mask kinds ids values) ≡ number (ruled buf mask kinds ids values)) × (sizeOf (shortest buf mask kinds ids values) ≡ ruledSize buf mask kinds ids values))
-unfolding stepsBytes sheetBytes written listed ruled
+unfolding stepsBytes sheetBytes written listed ruled bytesOf
 sheet-write-answer-the-shortest-counts p = differ itself (p (replicate 7 9) 1 (5 ∷ []) (0 ∷ []) [] tt tt tt tt tt .0) tt
 
 pub sheet-write-answer-size-of-the-buffer : ¬ ((buf : List ℕ) (mask : ℕ) (kinds ids values : List ℕ) → T (in-bytes buf) → T (in-u8 mask) → T (in-bytes kinds) → T (in-bytes ids) → T (in-u32s values)
-    → (numberOf (if ltb (length buf) 6 then NoRoom else Done (length buf)) ≡ number (ruled buf mask kinds ids values)) × (sizeOf (if ltb (length buf) 6 then NoRoom else Done (length buf)) ≡ ruledSize buf mask kinds ids values))
-unfolding stepsBytes sheetBytes written listed ruled ruledSize
+    → (numberOf (if ltb (length buf) (headerWidth version1) then NoRoom else Done (length buf)) ≡ number (ruled buf mask kinds ids values)) × (sizeOf (if ltb (length buf) (headerWidth version1) then NoRoom else Done (length buf)) ≡ ruledSize buf mask kinds ids values))
+unfolding stepsBytes sheetBytes written listed ruled ruledSize bytesOf
 sheet-write-answer-size-of-the-buffer p = differ itself (p (replicate 7 9) 1 [] [] [] tt tt tt tt tt .1) tt
 
 pub sheet-write-left-as-it-was : ¬ ((buf : List ℕ) (mask : ℕ) (kinds ids values : List ℕ) → T (in-bytes buf) → T (in-u8 mask) → T (in-bytes kinds) → T (in-bytes ids) → T (in-u32s values)
     → buf ≡ bufferOf buf (ruled buf mask kinds ids values))
-unfolding stepsBytes sheetBytes written listed ruled
+unfolding stepsBytes sheetBytes written listed ruled bytesOf
 sheet-write-left-as-it-was p = differ (entry 0) (p (replicate 7 9) 1 [] [] [] tt tt tt tt tt) tt
 
 pub sheet-write-left-cleared-past-the-sheet : ¬ ((buf : List ℕ) (mask : ℕ) (kinds ids values : List ℕ) → T (in-bytes buf) → T (in-u8 mask) → T (in-bytes kinds) → T (in-bytes ids) → T (in-u32s values)
-    → laid (zeros (length buf)) 0 (sheetBytes mask (listed kinds ids values)) ≡ bufferOf buf (ruled buf mask kinds ids values))
-unfolding run zeros laid stepsBytes sheetBytes written listed ruled
+    → laid (zeros (length buf)) 0 (sheetBytes version1 mask (listed kinds ids values)) ≡ bufferOf buf (ruled buf mask kinds ids values))
+unfolding run zeros laid stepsBytes sheetBytes written listed ruled bytesOf
 sheet-write-left-cleared-past-the-sheet p = differ (entry 6) (p (replicate 7 9) 1 [] [] [] tt tt tt tt tt) tt
 
 pub sheet-write-left-the-shortest-written : ¬ ((buf : List ℕ) (mask : ℕ) (kinds ids values : List ℕ) → T (in-bytes buf) → T (in-u8 mask) → T (in-bytes kinds) → T (in-bytes ids) → T (in-u32s values)
-    → bufferOf buf (written buf mask (listed kinds ids values)) ≡ bufferOf buf (ruled buf mask kinds ids values))
-unfolding stepsBytes sheetBytes written listed ruled
+    → bufferOf buf (written version1 buf mask (listed kinds ids values)) ≡ bufferOf buf (ruled buf mask kinds ids values))
+unfolding stepsBytes sheetBytes written listed ruled bytesOf
 sheet-write-left-the-shortest-written p = differ (entry 0) (p (replicate 7 9) 1 (5 ∷ []) (0 ∷ []) [] tt tt tt tt tt) tt
 
 -- a reader over bytes that stand somewhere, and the sheet of the two steps with mask 1
@@ -120,38 +126,38 @@ abbrev reader : RefT (List ℕ) → ℕ → Reader
 reader bytes at = record { sheet = bytes; at = at }
 
 abbrev lent : RefT (List ℕ)
-lent = record { ptr = (0, 0); name = 0; now = mark ++ (1 ∷ steps) }
+lent = record { ptr = (0, 0); name = 0; now = headed (1 ∷ steps) }
 
-pub sheet-new-before-the-mark : ¬ ((sheet : RefT (List ℕ)) → T (in-bytes (now sheet)) → (reader sheet 0 .sheet ≡ sheet) × (reader sheet 0 .at ≡ 6))
+pub sheet-new-before-the-mark : ¬ ((sheet : RefT (List ℕ)) → T (in-bytes (now sheet)) → (reader sheet 0 .sheet ≡ sheet) × (reader sheet 0 .at ≡ frontOf (now sheet)))
 sheet-new-before-the-mark p = differ itself (p lent tt .1) tt
 
-pub sheet-new-past-the-first-step : ¬ ((sheet : RefT (List ℕ)) → T (in-bytes (now sheet)) → (reader sheet 14 .sheet ≡ sheet) × (reader sheet 14 .at ≡ 6))
+pub sheet-new-past-the-first-step : ¬ ((sheet : RefT (List ℕ)) → T (in-bytes (now sheet)) → (reader sheet 14 .sheet ≡ sheet) × (reader sheet 14 .at ≡ frontOf (now sheet)))
 sheet-new-past-the-first-step p = differ itself (p lent tt .1) tt
 
-pub sheet-next-the-first-again : ¬ ((r : Reader) → T (in-Reader r) → stepAt (now (r .sheet)) 6 ≡ stepAt (now (r .sheet)) (r .at))
-unfolding stepAt numberAt
+pub sheet-next-the-first-again : ¬ ((r : Reader) → T (in-Reader r) → stepAt (now (r .sheet)) (frontOf (now (r .sheet))) ≡ stepAt (now (r .sheet)) (r .at))
+unfolding stepAt numberAt formOf
 sheet-next-the-first-again p = differ found (p (reader lent 14) tt) tt
 
-pub sheet-next-the-one-after : ¬ ((r : Reader) → T (in-Reader r) → stepAt (now (r .sheet)) (r .at + 8) ≡ stepAt (now (r .sheet)) (r .at))
-unfolding stepAt numberAt
+pub sheet-next-the-one-after : ¬ ((r : Reader) → T (in-Reader r) → stepAt (now (r .sheet)) (r .at + stepWidth version1) ≡ stepAt (now (r .sheet)) (r .at))
+unfolding stepAt numberAt formOf
 sheet-next-the-one-after p = differ found (p (reader lent 6) tt) tt
 
 pub sheet-moved-not-at-all : ¬ ((r : Reader) → T (in-Reader r) → (r .sheet ≡ r .sheet) × (r .at ≡ afterOf (now (r .sheet)) (r .at)))
-unfolding afterOf
+unfolding afterOf formOf
 sheet-moved-not-at-all p = differ itself (p (reader lent 6) tt .1) tt
 
 pub sheet-moved-past-the-end : ¬ ((r : Reader) → T (in-Reader r)
-    → (reader (r .sheet) (r .at + 8) .sheet ≡ r .sheet) × (reader (r .sheet) (r .at + 8) .at ≡ afterOf (now (r .sheet)) (r .at)))
-unfolding afterOf
+    → (reader (r .sheet) (r .at + stepWidth version1) .sheet ≡ r .sheet) × (reader (r .sheet) (r .at + stepWidth version1) .at ≡ afterOf (now (r .sheet)) (r .at)))
+unfolding afterOf formOf
 sheet-moved-past-the-end p = differ itself (p (reader lent 22) tt .1) tt
 
 pub sheet-read-at-the-front-always : ¬ ((sheet : List ℕ) (at : ℕ) → T (in-bytes sheet) → T (in-usize at) → takenAt sheet 0 ≡ takenAt sheet at)
-unfolding stepAt afterOf takenAt numberAt
+unfolding stepAt afterOf takenAt numberAt formOf
 sheet-read-at-the-front-always p = differ (λ (t : Taken). found (t .found)) (p steps 8 tt tt) tt
 
 pub sheet-read-at-without-moving : ¬ ((sheet : List ℕ) (at : ℕ) → T (in-bytes sheet) → T (in-usize at)
     → record { found = stepAt sheet at; at = at } ≡ takenAt sheet at)
-unfolding stepAt afterOf takenAt
+unfolding stepAt afterOf takenAt formOf
 sheet-read-at-without-moving p = differ (λ (t : Taken). t .at) (p steps 0 tt tt) tt
 
 -- ---- record; a buffer of 20 bytes

@@ -6,6 +6,7 @@ use Prim.Native.Nat.{ℕ}
 use lib.Dec.{T, eqb, leb, ltb}
 use lib.ListN.{length, getD, drop, replicate}
 use Rattle.rows.specs.Bytes.{numberAt, splice, placed, bytesOf, be32, run, cat, zeros}
+use Rattle.rows.specs.Tests.{all, allZero}
 use Rattle.rules.specs.Sets.{if_then_else_}
 use Rattle.rules.specs.State.{World, noRelay, start}
 use Rattle.rules.specs.Sending.{waitingIn}
@@ -16,7 +17,7 @@ use Rattle.layout.specs.Layout.{worldWidth}
 use Rattle.layout.specs.Image.{image, goodBytes}
 use Rattle.layout.specs.Lent.{Lent, left, lentStart, lentStep}
 use Rattle.rules.specs.Sheets as sheets
-use Rattle.rules.specs.Sheets.{mark, stepsOf, stepsIn, allZerosIn, badSheet, sheetIn}
+use Rattle.rules.specs.Sheets.{formOf, maskIn, formIn, stepsIn, allZerosIn, badSheet, listBy, sheetIn}
 use Rattle.rules.specs.Runs.{outcomes, sentBy, deliveredBy, droppedBy, sum, fields, digits, line, stepLines, lastWorld, longest, rehearsed, startOf, endOf, badOf}
 use Rattle.rules.specs.Examples.{recorded}
 use Rattle.rules.proofs.Kept.{step-keeps, run-keeps}
@@ -31,6 +32,7 @@ use Rattle.world.specs.declared.Answer.{Answer}
 use Rattle.world.specs.declared.Report.the-variants.{Nothing, WriteDone}
 use Rattle.world.specs.declared.run.Rehearsed.{Rehearsed}
 use Rattle.engine.specs.Told.{goodNumber, sheetNumber, toldBytes, toldOf, Stepped, telling, toldStep, toldRehearsal}
+use Rattle.certificate.proofs.RuledOutSheets.{headed}
 use Rattle.certificate.proofs.Differ.{differ, itself, truth, entry}
 use Rattle.certificate.proofs.Typed.{in-bytes, in-u32, in-u32s, in-u8, in-Answer, in-Step}
 use Rattle.certificate.proofs.ImageTyped.{image-bytes}
@@ -110,7 +112,7 @@ world-columns-of-desk-0-always p = differ (entry 1) (p wrote tt) tt
 
 -- a sheet with mask 1 and no step; a page that its record fills, one with room for the record of a step, and one of a byte
 abbrev pub blank : List ℕ
-blank = mark ++ (1 ∷ [])
+blank = headed (1 ∷ [])
 
 abbrev page : List ℕ
 page = replicate 20 7
@@ -156,14 +158,14 @@ two-long = length-image (start 2)
 
 pub world-rehearse-answer-done-without-room : ¬ ((sheet world out : List ℕ) → T (in-bytes sheet) → T (in-bytes world) → T (in-bytes out)
     → (if eqb (length world) worldWidth && ltb (length out) (length (rehearsed sheet)) then record { answer = 0; length = length (rehearsed sheet) } else rehearseAnswer sheet world out) ≡ rehearseAnswer sheet world out)
-unfolding answerBy longest sheetIn stepsIn allZerosIn recorded rehearsed
+unfolding answerBy longest sheetIn stepsIn allZerosIn allZero all formOf numberAt recorded rehearsed
 world-rehearse-answer-done-without-room p =
     differ (λ (r : Rehearsed). r .answer) (sym (long-right one one-long _ _) ∙ p blank one [] tt one-bytes tt ∙ answered-there one one-long blank []) tt
 
 -- a record that would just fit, in a buffer that the longest of as many steps does not fit into
 pub world-rehearse-answer-room-by-the-record : ¬ ((sheet world out : List ℕ) → T (in-bytes sheet) → T (in-bytes world) → T (in-bytes out)
     → (if eqb (length world) worldWidth && leb (length (rehearsed sheet)) (length out) then record { answer = 0; length = length (rehearsed sheet) } else rehearseAnswer sheet world out) ≡ rehearseAnswer sheet world out)
-unfolding answerBy longest sheetIn stepsIn allZerosIn recorded rehearsed
+unfolding answerBy longest sheetIn stepsIn allZerosIn allZero all formOf numberAt recorded rehearsed
 world-rehearse-answer-room-by-the-record p =
     differ (λ (r : Rehearsed). r .answer) (sym (long-right one one-long _ _) ∙ p blank one page tt one-bytes tt ∙ answered-there one one-long blank page) tt
 
@@ -175,23 +177,23 @@ world-rehearse-answer-bad-sheet-done p =
 
 pub world-rehearse-last-as-it-was : ¬ ((sheet world out : List ℕ) → T (in-bytes sheet) → T (in-bytes world) → T (in-bytes out)
     → world ≡ worldLeft sheet world out)
-unfolding longest line digits sheetIn stepsIn allZerosIn lastWorld
+unfolding longest line digits sheetIn stepsIn allZerosIn allZero all formOf numberAt lastWorld
 world-rehearse-last-as-it-was p = starts-differ (p blank two wide tt two-bytes tt ∙ left-there two two-long blank wide)
 
 -- the steps are run though the record has no room
 pub world-rehearse-last-run-without-room : ¬ ((sheet world out : List ℕ) → T (in-bytes sheet) → T (in-bytes world) → T (in-bytes out)
-    → (if eqb (length world) worldWidth && not (badSheet sheet) then image (lastWorld (start (getD sheet 5 0)) (stepsIn (stepsOf sheet) (drop 6 sheet))) else worldLeft sheet world out) ≡ worldLeft sheet world out)
-unfolding longest line digits sheetIn stepsIn allZerosIn lastWorld
+    → (if eqb (length world) worldWidth && not (badSheet sheet) then image (lastWorld (start (maskIn sheet)) (listBy (formIn sheet) sheet)) else worldLeft sheet world out) ≡ worldLeft sheet world out)
+unfolding longest line digits sheetIn stepsIn allZerosIn allZero all formOf numberAt lastWorld
 world-rehearse-last-run-without-room p = starts-differ (sym (sym (long-right two two-long _ _) ∙ p blank two narrow tt two-bytes tt ∙ left-there two two-long blank narrow))
 
 pub world-rehearse-printed-nothing : ¬ ((sheet world out : List ℕ) → T (in-bytes sheet) → T (in-bytes world) → T (in-bytes out)
     → (if badSheet sheet then recordLeft sheet world out else out) ≡ recordLeft sheet world out)
-unfolding laidBy longest sheetIn stepsIn allZerosIn recorded
+unfolding laidBy longest sheetIn stepsIn allZerosIn allZero all formOf numberAt recorded
 world-rehearse-printed-nothing p = differ (entry 0) (p blank one wide tt one-bytes tt ∙ printed-there one one-long blank wide) tt
 
 pub world-rehearse-printed-bad-always : ¬ ((sheet world out : List ℕ) → T (in-bytes sheet) → T (in-bytes world) → T (in-bytes out)
     → laid out 0 badOf ≡ recordLeft sheet world out)
-unfolding laid laidBy longest sheetIn stepsIn allZerosIn recorded
+unfolding laid laidBy longest sheetIn stepsIn allZerosIn allZero all formOf numberAt recorded
 world-rehearse-printed-bad-always p = differ (entry 0) (p blank one wide tt one-bytes tt ∙ printed-there one one-long blank wide) tt
 
 pub world-rehearse-printed-bad-in-part : ¬ ((sheet world out : List ℕ) → T (in-bytes sheet) → T (in-bytes world) → T (in-bytes out)
@@ -202,7 +204,7 @@ world-rehearse-printed-bad-in-part p = differ (entry 0) (sym (long-right one one
 -- as much of a record as fits
 pub world-rehearse-printed-cut-short : ¬ ((sheet world out : List ℕ) → T (in-bytes sheet) → T (in-bytes world) → T (in-bytes out)
     → (if eqb (length world) worldWidth && not (badSheet sheet) then laid out 0 (rehearsed sheet) else recordLeft sheet world out) ≡ recordLeft sheet world out)
-unfolding laid laidBy longest sheetIn stepsIn allZerosIn recorded rehearsed
+unfolding laid laidBy longest sheetIn stepsIn allZerosIn allZero all formOf numberAt recorded rehearsed
 world-rehearse-printed-cut-short p = differ (entry 0) (sym (long-right one one-long _ _) ∙ p blank one narrow tt one-bytes tt ∙ printed-there one one-long blank narrow) tt
 
 -- the record of these steps, with these totals in its last line
@@ -211,7 +213,7 @@ withTotals mask ks sent delivered dropped waiting = startOf mask ++ (stepLines 1
 
 -- the sheet of one step, WRITE 0 77
 abbrev pub written : List ℕ
-written = mark ++ (1 ∷ 5 ∷ 0 ∷ 0 ∷ 0 ∷ 0 ∷ 0 ∷ 0 ∷ 77 ∷ [])
+written = headed (1 ∷ 5 ∷ 0 ∷ 0 ∷ 0 ∷ 0 ∷ 0 ∷ 0 ∷ 77 ∷ [])
 
 -- lines numbered from 0
 abbrev numbered : ℕ → List Step → List ℕ
@@ -220,14 +222,14 @@ numbered mask ks =
     startOf mask ++ (stepLines 0 os ++ endOf (sum sentBy os) (sum deliveredBy os) (sum droppedBy os) (waitingIn (lastWorld (start mask) ks .places)))
 
 pub world-rehearse-printed-numbers-from-0 : ¬ ((sheet world out : List ℕ) → T (in-bytes sheet) → T (in-bytes world) → T (in-bytes out)
-    → (if eqb (length world) worldWidth && not (badSheet sheet) then laid out 0 (numbered (getD sheet 5 0) (stepsIn (stepsOf sheet) (drop 6 sheet))) else recordLeft sheet world out) ≡ recordLeft sheet world out)
-unfolding laid laidBy longest sheetIn stepsIn allZerosIn recorded numberAt
+    → (if eqb (length world) worldWidth && not (badSheet sheet) then laid out 0 (numbered (maskIn sheet) (listBy (formIn sheet) sheet)) else recordLeft sheet world out) ≡ recordLeft sheet world out)
+unfolding laid laidBy longest sheetIn stepsIn allZerosIn allZero all formOf numberAt recorded
 world-rehearse-printed-numbers-from-0 p =
     differ (entry 8) (sym (long-right one one-long _ _) ∙ p written one wide tt one-bytes tt ∙ printed-there one one-long written wide) tt
 
 pub world-rehearse-printed-invented-totals : ¬ ((sheet world out : List ℕ) → T (in-bytes sheet) → T (in-bytes world) → T (in-bytes out)
-    → (if eqb (length world) worldWidth && not (badSheet sheet) then laid out 0 (withTotals (getD sheet 5 0) (stepsIn (stepsOf sheet) (drop 6 sheet)) 0 0 0 0) else recordLeft sheet world out) ≡ recordLeft sheet world out)
-unfolding laid laidBy longest sheetIn stepsIn allZerosIn recorded numberAt
+    → (if eqb (length world) worldWidth && not (badSheet sheet) then laid out 0 (withTotals (maskIn sheet) (listBy (formIn sheet) sheet) 0 0 0 0) else recordLeft sheet world out) ≡ recordLeft sheet world out)
+unfolding laid laidBy longest sheetIn stepsIn allZerosIn allZero all formOf numberAt recorded
 world-rehearse-printed-invented-totals p =
     differ (entry 26) (sym (long-right one one-long _ _) ∙ p written one wide tt one-bytes tt ∙ printed-there one one-long written wide) tt
 
@@ -325,15 +327,15 @@ engine-world-step-columns-told-by-a-refusal p =
     tt
 
 pub engine-sheet-check-never-bad : ¬ ((sheet : List ℕ) → T (in-bytes sheet) → 0 ≡ sheetNumber sheet)
-unfolding allZerosIn
+unfolding allZerosIn allZero all formOf numberAt
 engine-sheet-check-never-bad p = differ itself (p [] tt) tt
 
 pub engine-sheet-check-bad-always : ¬ ((sheet : List ℕ) → T (in-bytes sheet) → 9 ≡ sheetNumber sheet)
-unfolding allZerosIn
+unfolding allZerosIn allZero all formOf numberAt
 engine-sheet-check-bad-always p = differ itself (p blank tt) tt
 
 pub engine-sheet-check-1-for-a-bad-one : ¬ ((sheet : List ℕ) → T (in-bytes sheet) → (if badSheet sheet then 1 else 0) ≡ sheetNumber sheet)
-unfolding allZerosIn
+unfolding allZerosIn allZero all formOf numberAt
 engine-sheet-check-1-for-a-bad-one p = differ itself (p [] tt) tt
 
 -- a kind and an id without a value, in a buffer with room
@@ -343,13 +345,13 @@ unfolding writing.ruled
 engine-sheet-write-answer-done-always p = differ itself (p page 1 (5 ∷ []) (0 ∷ []) [] tt tt tt tt tt) tt
 
 pub engine-sheet-write-answer-of-the-shortest : ¬ ((buf : List ℕ) (mask : ℕ) (kinds ids values : List ℕ) → T (in-bytes buf) → T (in-u8 mask) → T (in-bytes kinds) → T (in-bytes ids) → T (in-u32s values)
-    → sheets.number (sheets.written buf mask (listed kinds ids values)) ≡ sheets.number (writing.ruled buf mask kinds ids values))
-unfolding writing.ruled listed sheets.written sheets.sheetBytes sheets.stepsBytes
+    → sheets.number (sheets.written sheets.version1 buf mask (listed kinds ids values)) ≡ sheets.number (writing.ruled buf mask kinds ids values))
+unfolding writing.ruled listed sheets.written sheets.sheetBytes sheets.stepsBytes bytesOf
 engine-sheet-write-answer-of-the-shortest p = differ itself (p page 1 (5 ∷ []) (0 ∷ []) [] tt tt tt tt tt) tt
 
 pub engine-sheet-write-left-as-it-was : ¬ ((buf : List ℕ) (mask : ℕ) (kinds ids values : List ℕ) → T (in-bytes buf) → T (in-u8 mask) → T (in-bytes kinds) → T (in-bytes ids) → T (in-u32s values)
     → buf ≡ bufferOf buf (writing.ruled buf mask kinds ids values))
-unfolding writing.ruled listed sheets.written sheets.sheetBytes sheets.stepsBytes
+unfolding writing.ruled listed sheets.written sheets.sheetBytes sheets.stepsBytes bytesOf
 engine-sheet-write-left-as-it-was p = differ (entry 0) (p page 1 [] [] [] tt tt tt tt tt) tt
 
 -- told too short for the length, and a world of no length: BAD WORLD
@@ -365,12 +367,12 @@ engine-sheet-rehearse-answer-before-told p = differ itself (p blank [] page [] t
 
 pub engine-sheet-rehearse-last-run-untold : ¬ ((sheet world out told : List ℕ) → T (in-bytes sheet) → T (in-bytes world) → T (in-bytes out) → T (in-bytes told)
     → worldLeft sheet world out ≡ toldRehearsal sheet world out told .last)
-unfolding toldRehearsal longest line digits sheetIn stepsIn allZerosIn lastWorld
+unfolding toldRehearsal longest line digits sheetIn stepsIn allZerosIn allZero all formOf numberAt lastWorld
 engine-sheet-rehearse-last-run-untold p = starts-differ (sym (p blank two wide [] tt two-bytes tt tt) ∙ left-there two two-long blank wide)
 
 pub engine-sheet-rehearse-printed-nothing : ¬ ((sheet world out told : List ℕ) → T (in-bytes sheet) → T (in-bytes world) → T (in-bytes out) → T (in-bytes told)
     → out ≡ toldRehearsal sheet world out told .printed)
-unfolding toldRehearsal laidBy longest sheetIn stepsIn allZerosIn recorded
+unfolding toldRehearsal laidBy longest sheetIn stepsIn allZerosIn allZero all formOf numberAt recorded
 engine-sheet-rehearse-printed-nothing p = differ (entry 0) (p blank one wide (replicate 4 7) tt one-bytes tt tt ∙ printed-there one one-long blank wide) tt
 
 pub engine-sheet-rehearse-length-told-by-a-refusal : ¬ ((sheet world out told : List ℕ) → T (in-bytes sheet) → T (in-bytes world) → T (in-bytes out) → T (in-bytes told)
@@ -384,5 +386,5 @@ toldAfter r = if eqb (r .answer) 0 then be32 (r .length) ++ [] else replicate 4 
 
 pub engine-sheet-rehearse-length-not-told : ¬ ((sheet world out told : List ℕ) → T (in-bytes sheet) → T (in-bytes world) → T (in-bytes out) → T (in-bytes told)
     → told ≡ toldRehearsal sheet world out told .told)
-unfolding toldRehearsal answerBy longest sheetIn stepsIn allZerosIn recorded rehearsed bytesOf
+unfolding toldRehearsal answerBy longest sheetIn stepsIn allZerosIn allZero all formOf numberAt recorded rehearsed bytesOf
 engine-sheet-rehearse-length-not-told p = differ (entry 0) (p blank one wide (replicate 4 7) tt one-bytes tt tt ∙ ap toldAfter (answered-there one one-long blank wide)) tt

@@ -4,7 +4,7 @@
 use mathlib.Core.Path.{_≡_}
 use mathlib.Core.Bool.{Bool, not}
 use mathlib.Core.List.{List, [], _∷_, _++_}
-use Prim.Native.Nat.{ℕ, _+_, _*_, _≤_, _<_}
+use Prim.Native.Nat.{ℕ, _≤_, _<_}
 use lib.Dec.{eqb, leb, ltb}
 use lib.ListN.{length, drop}
 use Rattle.rules.specs.Sets.{_||_, if_then_else_}
@@ -14,7 +14,7 @@ use Rattle.rules.specs.Steps.{noReport}
 use Rattle.rules.specs.Table.{firstOf, table}
 use Rattle.layout.specs.Layout.{worldWidth}
 use Rattle.layout.specs.Image.{worldAt, goodBytes}
-use Rattle.rules.specs.Sheets.{stepsOf, badSheet}
+use Rattle.rules.specs.Sheets.{version1, stepsOf, badSheet, sheetWidth}
 use Rattle.rules.specs.Sheets as sheets
 use Rattle.rules.specs.Runs.{longest, badOf}
 use Rattle.sheet.specs.declared.Sheet.{Sheet}
@@ -45,8 +45,8 @@ checkRows b = (badSheet b, BAD-SHEET) ∷ []
 -- "BAD SHEET for mask 0 or over 8,000 steps" (and for three slices that are not of one length), "then NO ROOM": six bytes, "then 8 bytes a step"
 abbrev pub writeRows : List ℕ → ℕ → List ℕ → List ℕ → List ℕ → Rows
 writeRows buf mask kinds ids values =
-    (unequal kinds ids values || eqb mask 0 || ltb 8000 (length kinds), BAD-SHEET)
-    ∷ (ltb (length buf) (6 + 8 * length kinds), number no-room)
+    (unequal kinds ids values || eqb mask 0 || ltb (version1 .mostSteps) (length kinds), BAD-SHEET)
+    ∷ (ltb (length buf) (sheetWidth version1 (length kinds)), number no-room)
     ∷ []
 
 -- BAD WORLD as at a start; BAD SHEET; NO ROOM: less room than the longest record of so many steps takes

@@ -3,17 +3,18 @@
 use mathlib.Core.Path.{_≡_}
 use mathlib.Core.Bool.{true, false}
 use mathlib.Core.List.{List, [], _∷_, _++_, map}
-use Prim.Native.Nat.{ℕ, zero, suc, _+_, _*_, _≤_, _<_}
+use Prim.Native.Nat.{ℕ, zero, suc, _≤_, _<_}
 use lib.ListN.{length, getD, take, drop}
 use Rattle.rules.specs.State.{start}
 use Rattle.rules.specs.declared.Step.{Step}
 use Rattle.rules.specs.Steps.{Outcome, noReport, after, report, stepped}
 use Rattle.layout.specs.Layout.{worldWidth}
 use Rattle.layout.specs.Image.{image, worldAt, goodBytes}
-use Rattle.rules.specs.Sheets.{sheet, sheetIn}
+use Rattle.rules.specs.Sheets.{version1, sheet, sheetIn, sheetWidth}
 use Rattle.rules.specs.Runs.{outcomes, lastWorld, answer, fields, printed, longest}
 use Rattle.sheet.specs.declared.Found.{Found}
 use Rattle.sheet.specs.declared.Found.the-variants.{At, End}
+use Rattle.sheet.specs.Reading.{frontOf}
 use Rattle.sheet.specs.Writing.{kindsOf, idsOf, valuesOf, numberOf, sizeOf}
 use Rattle.world.specs.Answer.{columns, reportOf}
 use Rattle.certificate.specs.Code.{Code, Promised}
@@ -45,9 +46,9 @@ unfoldable pub readFrom : Code → ℕ → List ℕ → ℕ → List Step
 readFrom c zero b at = []
 readFrom c (suc n) b at = before (c .read-at b at .found) (readFrom c n b (c .read-at b at .at))
 
--- the steps past the six bytes of the head, until the end is found (no sheet has as many steps as bytes)
+-- the steps from the first on, until the end is found (no sheet has as many steps as bytes)
 abbrev pub readBy : Code → List ℕ → List Step
-readBy c b = readFrom c (length b) b 6
+readBy c b = readFrom c (length b) b (frontOf b)
 
 -- numbers below n, as a slice of the code's has them
 abbrev pub Below : ℕ → List ℕ → Type 0
@@ -84,11 +85,11 @@ pub record Demand2 (c : Code) : Type 0 where
       (numberOf r ≡ 0) × (sizeOf r ≡ length b) × (c .write-buf buf (c .check b .mask) (kindsOf ks) (idsOf ks) (valuesOf ks) ≡ b ++ drop (length b) buf)
   -- up to 8,000 steps in slices, written and read, give the same slices
   pub sheet-back : (buf : List ℕ) (mask : ℕ) (kinds ids values : List ℕ) → 0 < mask → mask < 256
-      → length ids ≡ length kinds → length values ≡ length kinds → length kinds ≤ 8000 → Below 256 kinds → Below 256 ids → Below 4294967296 values
-      → 6 + 8 * length kinds ≤ length buf
-      → let b = take (6 + 8 * length kinds) (c .write-buf buf mask kinds ids values) in
+      → length ids ≡ length kinds → length values ≡ length kinds → length kinds ≤ version1 .mostSteps → Below 256 kinds → Below 256 ids → Below 4294967296 values
+      → sheetWidth version1 (length kinds) ≤ length buf
+      → let b = take (sheetWidth version1 (length kinds)) (c .write-buf buf mask kinds ids values) in
       (numberOf (c .write buf mask kinds ids values) ≡ 0)
-      × (sizeOf (c .write buf mask kinds ids values) ≡ 6 + 8 * length kinds)
+      × (sizeOf (c .write buf mask kinds ids values) ≡ sheetWidth version1 (length kinds))
       × (c .check b ≡ record { bad = false; mask = mask; steps = length kinds })
       × (kindsOf (readBy c b) ≡ kinds) × (idsOf (readBy c b) ≡ ids) × (valuesOf (readBy c b) ≡ values)
 
