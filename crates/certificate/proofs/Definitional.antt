@@ -142,7 +142,8 @@ definitional =
       start-world = λ w mask. lentStart w mask .buffer;
       check = checkOf;
       read-at = takenAt;
-      write = λ buf mask kinds ids values. write-as (length (sheets.sheetBytes sheets.version1 mask (listed kinds ids values))) (ruled buf mask kinds ids values);
+      write = λ buf mask kinds ids values.
+          write-as (length (sheets.sheetBytes sheets.version1 mask (listed kinds ids values))) (ruled buf mask kinds ids values);
       write-buf = λ buf mask kinds ids values. bufferOf buf (ruled buf mask kinds ids values);
       rehearse = rehearseAnswer;
       rehearse-world = worldLeft;

@@ -329,7 +329,9 @@ module _ (mask : ℕ) (ks : List Step) (some : 0 < mask) (byte : mask < 256) (fe
       totals-tied sent delivered dropped waiting t (drop (length (printed mask ks)) out) small (same ∙ d .rehearsed b world out mask ks e long room .3)
 
 -- no four numbers are the totals of every run: not of a run without a step and of one with a WRITE
-pub invented-totals : (sent delivered dropped waiting : ℕ) → ¬ ((mask : ℕ) (ks : List Step) → 0 < mask → mask < 256 → length ks ≤ version1 .mostSteps → withTotals mask ks sent delivered dropped waiting ≡ printed mask ks)
+pub invented-totals : (sent delivered dropped waiting : ℕ)
+    → ¬ ((mask : ℕ) (ks : List Step) → 0 < mask → mask < 256 → length ks ≤ version1 .mostSteps
+    → withTotals mask ks sent delivered dropped waiting ≡ printed mask ks)
 unfolding recorded
 invented-totals sent delivered dropped waiting p =
     let none : endOf sent delivered dropped waiting ≡ endOf 0 0 0 0 = ap (drop 8) (p 1 [] (lit< tt) (lit< tt) (lit≤ tt)) in

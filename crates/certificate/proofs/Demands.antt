@@ -3,10 +3,11 @@
 use mathlib.Core.Path.{_≡_, refl, sym, ap, subst, _∙_}
 use mathlib.Core.Bool.{Bool, true, false, not}
 use mathlib.Core.List.{List, [], _∷_, _++_, map}
-use Prim.Native.Nat.{ℕ, zero, suc, _+_, _*_, _≤_, _<_}
+use Prim.Native.Nat.{ℕ, zero, suc, _+_, _-_, _≤_, _<_}
+use native.Mathlib.Nat.{div-le-self}
 use native.Mathlib.Omega.{arith}
 use lib.Dec.{eqb, leb, ltb, lit≤}
-use lib.ListN.{length, getD, take, drop}
+use lib.ListN.{length, take, drop}
 use borrow.Author.Tests.{ltb-true, ltb-false, eq-eqb, ne-eqb, lt-leb, le-ltb}
 use Rattle.views.proofs.Truth.{contrary}
 use Rattle.rules.specs.Sets.{_||_, if_then_else_}
@@ -21,7 +22,7 @@ use Rattle.layout.specs.Layout.{worldWidth}
 use Rattle.layout.specs.Image.{image, worldAt, goodBytes}
 use Rattle.layout.specs.Lent.{Lent, kept, left, lentStep, lentStart}
 use Rattle.rules.specs.Sheets.{Written, wrote, written, Sheet, sheet, bad, version1, formOf, maskIn, formIn, badSheet, stepsOf}
-use Rattle.rules.specs.Sheets.{listBy, sheetIn, sheetBytes, sheetWidth}
+use Rattle.rules.specs.Sheets.{listBy, sheetIn, sheetBytes, sheetWidth, stepWidth}
 use Rattle.rules.specs.Sheets as sheets
 use Rattle.rules.specs.Runs.{outcomes, lastWorld, answer, printed, longest}
 use Rattle.rules.proofs.Refusals.{number-range, every-answer}
@@ -146,7 +147,8 @@ module _ (b : List ℕ) where
       go false h = absurd (omega arith)
 
   -- what a check says of an accepted sheet
-  check-accepted : checkOf b .bad ≡ false → (checkOf b .mask ≡ maskIn b) × (checkOf b .steps ≡ stepsOf b) × (sheetIn b ≡ sheet (maskIn b) (stepsFrom b (frontOf b)))
+  check-accepted : checkOf b .bad ≡ false → (checkOf b .mask ≡ maskIn b) × (checkOf b .steps ≡ stepsOf b)
+      × (sheetIn b ≡ sheet (maskIn b) (stepsFrom b (frontOf b)))
   unfolding checkOf sheetIn stepsFrom
   check-accepted = go (badSheet b)
     where
@@ -165,9 +167,11 @@ sheet-bad b e = go (badSheet b) e
 
 module _ (buf : List ℕ) (mask : ℕ) (kinds ids values : List ℕ) where
   write-numbered : Numbered (sheets.number (ruled buf mask kinds ids values)) (writeRows buf mask kinds ids values)
-  write-numbered = go (unequal kinds ids values || eqb mask 0 || ltb (version1 .mostSteps) (length kinds)) (ltb (length buf) (sheetWidth version1 (length kinds))) refl refl
+  write-numbered =
+      go (unequal kinds ids values || eqb mask 0 || ltb (version1 .mostSteps) (length kinds)) (ltb (length buf) (sheetWidth version1 (length kinds))) refl refl
     where
-      go : (x y : Bool) → unequal kinds ids values || eqb mask 0 || ltb (version1 .mostSteps) (length kinds) ≡ x → ltb (length buf) (sheetWidth version1 (length kinds)) ≡ y
+      go : (x y : Bool) → unequal kinds ids values || eqb mask 0 || ltb (version1 .mostSteps) (length kinds) ≡ x
+          → ltb (length buf) (sheetWidth version1 (length kinds)) ≡ y
           → Numbered (sheets.number (ruled buf mask kinds ids values)) ((x, BAD-SHEET) ∷ (y, number refusals.no-room) ∷ [])
       go true y e f = rw (writing.bad buf mask kinds ids values e) (record { known = lit≤ tt; first = refl })
       go false true e f = rw (writing.roomless buf mask kinds ids values e (omega (arith, ltb-true (length buf) (sheetWidth version1 (length kinds)) f)))
@@ -378,15 +382,17 @@ module _ (c : Code) (p : Promised c) where
   read-sheet b mask ks e =
       let a = accepted b mask ks e in
       let all = front b mask ks a in
-      read-all (length b) b (frontOf b) (omega (arith, ap length all, count b mask ks a)) ∙ all
+      let fewer = div-le-self (length b - frontOf b) (stepWidth (formIn b)) in
+      read-all (length b) b (frontOf b) (omega (arith, ap length all, count b mask ks a, fewer)) ∙ all
 
   sheet-read : (b : List ℕ) → c .check b .bad ≡ false → (sheetIn b ≡ sheet (c .check b .mask) (readBy c b)) × (c .check b .steps ≡ length (readBy c b))
   sheet-read b h =
       let e = p .check-kept b in
       let a = check-accepted b (sym (ap (λ (s : checked.Sheet). s .bad) e) ∙ h) in
       let mask-is : c .check b .mask ≡ maskIn b = ap (λ (s : checked.Sheet). s .mask) e ∙ a .0 in
-      let ks-is : readBy c b ≡ stepsFrom b (frontOf b) = read-sheet b (maskIn b) (stepsFrom b (frontOf b)) (a .2) in
-      let many : stepsOf b ≡ length (stepsFrom b (frontOf b)) = count b (maskIn b) (stepsFrom b (frontOf b)) (accepted b (maskIn b) (stepsFrom b (frontOf b)) (a .2)) in
+      let ks : List Step = stepsFrom b (frontOf b) in
+      let ks-is : readBy c b ≡ ks = read-sheet b (maskIn b) ks (a .2) in
+      let many : stepsOf b ≡ length ks = count b (maskIn b) ks (accepted b (maskIn b) ks (a .2)) in
       (rw (mask-is, ks-is) (a .2), ap (λ (s : checked.Sheet). s .steps) e ∙ a .1 ∙ many ∙ ap length (sym ks-is))
 
   sheet-again : (b buf : List ℕ) → Below 256 b → c .check b .bad ≡ false → length b ≤ length buf
@@ -408,7 +414,8 @@ module _ (c : Code) (p : Promised c) where
       (said .0 ∙ ap sheets.number wrote-is, said .1 ∙ size, p .write-left buf mask (kindsOf ks) (idsOf ks) (valuesOf ks) ∙ ap (bufferOf buf) wrote-is)
 
   module _ (buf : List ℕ) (mask : ℕ) (kinds ids values : List ℕ) (some : 0 < mask) (same : length ids ≡ length kinds) (alike : length values ≡ length kinds)
-      (few : length kinds ≤ version1 .mostSteps) (hk : Below 256 kinds) (hi : Below 256 ids) (hv : Below 4294967296 values) (room : sheetWidth version1 (length kinds) ≤ length buf) where
+      (few : length kinds ≤ version1 .mostSteps) (hk : Below 256 kinds) (hi : Below 256 ids) (hv : Below 4294967296 values)
+      (room : sheetWidth version1 (length kinds) ≤ length buf) where
     abbrev steps : List Step
     steps = listed kinds ids values
 

@@ -9,7 +9,7 @@ use denote.Ref.{RefT, now}
 use Rattle.rows.specs.Bytes.{numberAt, bytesOf, run, zeros}
 use Rattle.rows.specs.Tests.{all, allZero}
 use Rattle.rules.specs.Sets.{if_then_else_}
-use Rattle.rules.specs.Sheets.{version1, formOf, stepWidth, stepIn, allZerosIn, stepsBytes, mark, maskAt, maskIn, headerWidth}
+use Rattle.rules.specs.Sheets.{version1, formOf, valueAt, stepWidth, stepIn, allZerosIn, stepsBytes, mark, maskAt, maskIn, headerWidth}
 use Rattle.rules.specs.Sheets.{stepsOf, badSheet, sheetBytes, number, written}
 use Rattle.rules.specs.Runs.{digits, decimal, line, start-word, bad-word, startOf, endOf, badOf}
 use Rattle.sheet.specs.Reading.{checkOf, frontOf, stepAt, afterOf, takenAt}
@@ -56,8 +56,14 @@ pub sheet-step-at-the-front-always : ¬ ((b : List ℕ) (at : ℕ) → T (in-byt
 unfolding stepAt numberAt formOf
 sheet-step-at-the-front-always p = differ found (p steps 8 tt tt) tt
 
+-- four bytes, low byte first
+abbrev lowFirst : List ℕ → ℕ → ℕ
+lowFirst b at = ((getD b (at + 3) 0 * 256 + getD b (at + 2) 0) * 256 + getD b (at + 1) 0) * 256 + getD b at 0
+
 pub sheet-step-at-low-byte-first : ¬ ((b : List ℕ) (at : ℕ) → T (in-bytes b) → T (in-usize at)
-    → (if leb (at + stepWidth version1) (length b) then At (record { kind = getD b at 0; id = getD b (at + 1) 0; value = ((getD b (at + 7) 0 * 256 + getD b (at + 6) 0) * 256 + getD b (at + 5) 0) * 256 + getD b (at + 4) 0 }) else End) ≡ stepAt b at)
+    → (if leb (at + stepWidth version1) (length b) then At (record { kind = getD b at 0; id = getD b (at + 1) 0; value = lowFirst b (at + valueAt version1) })
+    else End)
+    ≡ stepAt b at)
 unfolding stepAt numberAt formOf
 sheet-step-at-low-byte-first p = differ found (p steps 0 tt tt) tt
 
@@ -102,7 +108,8 @@ unfolding stepsBytes sheetBytes written listed ruled bytesOf
 sheet-write-answer-the-shortest-counts p = differ itself (p (replicate 7 9) 1 (5 ∷ []) (0 ∷ []) [] tt tt tt tt tt .0) tt
 
 pub sheet-write-answer-size-of-the-buffer : ¬ ((buf : List ℕ) (mask : ℕ) (kinds ids values : List ℕ) → T (in-bytes buf) → T (in-u8 mask) → T (in-bytes kinds) → T (in-bytes ids) → T (in-u32s values)
-    → (numberOf (if ltb (length buf) (headerWidth version1) then NoRoom else Done (length buf)) ≡ number (ruled buf mask kinds ids values)) × (sizeOf (if ltb (length buf) (headerWidth version1) then NoRoom else Done (length buf)) ≡ ruledSize buf mask kinds ids values))
+    → (numberOf (if ltb (length buf) (headerWidth version1) then NoRoom else Done (length buf)) ≡ number (ruled buf mask kinds ids values))
+    × (sizeOf (if ltb (length buf) (headerWidth version1) then NoRoom else Done (length buf)) ≡ ruledSize buf mask kinds ids values))
 unfolding stepsBytes sheetBytes written listed ruled ruledSize bytesOf
 sheet-write-answer-size-of-the-buffer p = differ itself (p (replicate 7 9) 1 [] [] [] tt tt tt tt tt .1) tt
 
@@ -128,10 +135,12 @@ reader bytes at = record { sheet = bytes; at = at }
 abbrev lent : RefT (List ℕ)
 lent = record { ptr = (0, 0); name = 0; now = headed (1 ∷ steps) }
 
-pub sheet-new-before-the-mark : ¬ ((sheet : RefT (List ℕ)) → T (in-bytes (now sheet)) → (reader sheet 0 .sheet ≡ sheet) × (reader sheet 0 .at ≡ frontOf (now sheet)))
+pub sheet-new-before-the-mark : ¬ ((sheet : RefT (List ℕ)) → T (in-bytes (now sheet))
+    → (reader sheet 0 .sheet ≡ sheet) × (reader sheet 0 .at ≡ frontOf (now sheet)))
 sheet-new-before-the-mark p = differ itself (p lent tt .1) tt
 
-pub sheet-new-past-the-first-step : ¬ ((sheet : RefT (List ℕ)) → T (in-bytes (now sheet)) → (reader sheet 14 .sheet ≡ sheet) × (reader sheet 14 .at ≡ frontOf (now sheet)))
+pub sheet-new-past-the-first-step : ¬ ((sheet : RefT (List ℕ)) → T (in-bytes (now sheet))
+    → (reader sheet 14 .sheet ≡ sheet) × (reader sheet 14 .at ≡ frontOf (now sheet)))
 sheet-new-past-the-first-step p = differ itself (p lent tt .1) tt
 
 pub sheet-next-the-first-again : ¬ ((r : Reader) → T (in-Reader r) → stepAt (now (r .sheet)) (frontOf (now (r .sheet))) ≡ stepAt (now (r .sheet)) (r .at))
@@ -147,7 +156,8 @@ unfolding afterOf formOf
 sheet-moved-not-at-all p = differ itself (p (reader lent 6) tt .1) tt
 
 pub sheet-moved-past-the-end : ¬ ((r : Reader) → T (in-Reader r)
-    → (reader (r .sheet) (r .at + stepWidth version1) .sheet ≡ r .sheet) × (reader (r .sheet) (r .at + stepWidth version1) .at ≡ afterOf (now (r .sheet)) (r .at)))
+    → (reader (r .sheet) (r .at + stepWidth version1) .sheet ≡ r .sheet)
+    × (reader (r .sheet) (r .at + stepWidth version1) .at ≡ afterOf (now (r .sheet)) (r .at)))
 unfolding afterOf formOf
 sheet-moved-past-the-end p = differ itself (p (reader lent 22) tt .1) tt
 

@@ -4,7 +4,7 @@ use mathlib.Core.Bool.{Bool, true, false, not, _&&_}
 use mathlib.Core.List.{List, [], _∷_, _++_}
 use Prim.Native.Nat.{ℕ}
 use lib.Dec.{T, eqb, leb, ltb}
-use lib.ListN.{length, getD, drop, replicate}
+use lib.ListN.{length, getD, replicate}
 use Rattle.rows.specs.Bytes.{numberAt, splice, placed, bytesOf, be32, run, cat, zeros}
 use Rattle.rows.specs.Tests.{all, allZero}
 use Rattle.rules.specs.Sets.{if_then_else_}
@@ -182,7 +182,9 @@ world-rehearse-last-as-it-was p = starts-differ (p blank two wide tt two-bytes t
 
 -- the steps are run though the record has no room
 pub world-rehearse-last-run-without-room : ¬ ((sheet world out : List ℕ) → T (in-bytes sheet) → T (in-bytes world) → T (in-bytes out)
-    → (if eqb (length world) worldWidth && not (badSheet sheet) then image (lastWorld (start (maskIn sheet)) (listBy (formIn sheet) sheet)) else worldLeft sheet world out) ≡ worldLeft sheet world out)
+    → (if eqb (length world) worldWidth && not (badSheet sheet) then image (lastWorld (start (maskIn sheet)) (listBy (formIn sheet) sheet))
+    else worldLeft sheet world out)
+    ≡ worldLeft sheet world out)
 unfolding longest line digits sheetIn stepsIn allZerosIn allZero all formOf numberAt lastWorld
 world-rehearse-last-run-without-room p = starts-differ (sym (sym (long-right two two-long _ _) ∙ p blank two narrow tt two-bytes tt ∙ left-there two two-long blank narrow))
 
@@ -222,13 +224,17 @@ numbered mask ks =
     startOf mask ++ (stepLines 0 os ++ endOf (sum sentBy os) (sum deliveredBy os) (sum droppedBy os) (waitingIn (lastWorld (start mask) ks .places)))
 
 pub world-rehearse-printed-numbers-from-0 : ¬ ((sheet world out : List ℕ) → T (in-bytes sheet) → T (in-bytes world) → T (in-bytes out)
-    → (if eqb (length world) worldWidth && not (badSheet sheet) then laid out 0 (numbered (maskIn sheet) (listBy (formIn sheet) sheet)) else recordLeft sheet world out) ≡ recordLeft sheet world out)
+    → (if eqb (length world) worldWidth && not (badSheet sheet) then laid out 0 (numbered (maskIn sheet) (listBy (formIn sheet) sheet))
+    else recordLeft sheet world out)
+    ≡ recordLeft sheet world out)
 unfolding laid laidBy longest sheetIn stepsIn allZerosIn allZero all formOf numberAt recorded
 world-rehearse-printed-numbers-from-0 p =
     differ (entry 8) (sym (long-right one one-long _ _) ∙ p written one wide tt one-bytes tt ∙ printed-there one one-long written wide) tt
 
 pub world-rehearse-printed-invented-totals : ¬ ((sheet world out : List ℕ) → T (in-bytes sheet) → T (in-bytes world) → T (in-bytes out)
-    → (if eqb (length world) worldWidth && not (badSheet sheet) then laid out 0 (withTotals (maskIn sheet) (listBy (formIn sheet) sheet) 0 0 0 0) else recordLeft sheet world out) ≡ recordLeft sheet world out)
+    → (if eqb (length world) worldWidth && not (badSheet sheet) then laid out 0 (withTotals (maskIn sheet) (listBy (formIn sheet) sheet) 0 0 0 0)
+    else recordLeft sheet world out)
+    ≡ recordLeft sheet world out)
 unfolding laid laidBy longest sheetIn stepsIn allZerosIn allZero all formOf numberAt recorded
 world-rehearse-printed-invented-totals p =
     differ (entry 26) (sym (long-right one one-long _ _) ∙ p written one wide tt one-bytes tt ∙ printed-there one one-long written wide) tt

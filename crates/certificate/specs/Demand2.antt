@@ -85,7 +85,8 @@ pub record Demand2 (c : Code) : Type 0 where
       (numberOf r ≡ 0) × (sizeOf r ≡ length b) × (c .write-buf buf (c .check b .mask) (kindsOf ks) (idsOf ks) (valuesOf ks) ≡ b ++ drop (length b) buf)
   -- up to 8,000 steps in slices, written and read, give the same slices
   pub sheet-back : (buf : List ℕ) (mask : ℕ) (kinds ids values : List ℕ) → 0 < mask → mask < 256
-      → length ids ≡ length kinds → length values ≡ length kinds → length kinds ≤ version1 .mostSteps → Below 256 kinds → Below 256 ids → Below 4294967296 values
+      → length ids ≡ length kinds → length values ≡ length kinds → length kinds ≤ version1 .mostSteps
+      → Below 256 kinds → Below 256 ids → Below 4294967296 values
       → sheetWidth version1 (length kinds) ≤ length buf
       → let b = take (sheetWidth version1 (length kinds)) (c .write-buf buf mask kinds ids values) in
       (numberOf (c .write buf mask kinds ids values) ≡ 0)

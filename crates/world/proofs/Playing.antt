@@ -212,8 +212,9 @@ module _ (b : List ℕ) (s : checked.Sheet) (e : s ≡ checkOf b) where
   found-good : s .bad ≡ false → sheetIn b ≡ sheet (s .mask) (stepsFrom b 6)
   unfolding readOf
   found-good t =
-      let read : sheetIn b ≡ sheet (s .mask) (stepsIn (formIn b) (s .steps) (drop 6 b)) = sym (rw t at (ap (λ (x : checked.Sheet). readOf x b) e ∙ check-reads b)) in
-      read ∙ ap (sheet (s .mask)) (sym (front b (s .mask) (stepsIn (formIn b) (s .steps) (drop 6 b)) (accepted b (s .mask) (stepsIn (formIn b) (s .steps) (drop 6 b)) read)))
+      let ks : List Step = stepsIn (formIn b) (s .steps) (drop 6 b) in
+      let read : sheetIn b ≡ sheet (s .mask) ks = sym (rw t at (ap (λ (x : checked.Sheet). readOf x b) e ∙ check-reads b)) in
+      read ∙ ap (sheet (s .mask)) (sym (front b (s .mask) ks (accepted b (s .mask) ks read)))
 
   pub found-facts : s .bad ≡ false → (badSheet b ≡ false) × (s .mask ≡ getD b 5 0)
   found-facts t =
