@@ -13,9 +13,8 @@ use Rattle.views.proofs.Truth.{neither-true}
 use Rattle.rules.specs.Sets.{_&&_, _||_}
 use Rattle.rules.specs.Steps.{Step}
 use Rattle.rows.specs.Bytes.{bytesOf, be16, zeros}
-use Rattle.rows.specs.Tests.{allZero}
 use Rattle.rows.proofs.Laws.{Holds, holds-same}
-use Rattle.rows.proofs.Held.{holds-one, holds-append, held-all, zeros-held, zeros-pass}
+use Rattle.rows.proofs.Held.{holds-one, holds-append, zeros-held, zeros-pass}
 use Rattle.rows.proofs.Tables.{length-zeros}
 use Rattle.rows.proofs.Numbers.{Bytes, length-bytesOf, length-be16, number-held, holds-number, holds-u16}
 use Rattle.rules.specs.Sheets.{Form, version1, formOf, valueAt, zerosAt, stepWidth, stepIn, zerosIn, stepBytes, stepsIn, allZerosIn, stepsBytes}

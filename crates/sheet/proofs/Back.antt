@@ -5,7 +5,6 @@ use Prim.Native.Nat.{ℕ, suc, _^_, _≤_, _<_}
 use native.Mathlib.Omega.{arith}
 use lib.ListN.{length, getD, take, drop}
 use lib.Seq.{take-at}
-use Rattle.rows.proofs.Numbers.{Bytes}
 use Rattle.rules.specs.declared.Step.{Step}
 use Rattle.rules.specs.Sheets.{Form, formIn, sheet, sheetIn, sheetBytes, sheetWidth, wrote, written}
 use Rattle.rules.proofs.Sheets.{Known, Smalls, size, sheet-back, sheet-held}

@@ -20,7 +20,7 @@ use Rattle.rules.specs.Sets.{if_then_else_}
 use Rattle.rules.specs.declared.Step.{Step}
 use Rattle.rules.specs.Sheets.{Form, version1, stepWidth, stepBytes, stepsBytes, headerWidth, headerBytes, sheetBytes, sheetWidth}
 use Rattle.rules.specs.Sheets.{bad-sheet, no-room, wrote, number, written}
-use Rattle.rules.proofs.Sheets.{step-length, steps-length, header-length, size}
+use Rattle.rules.proofs.Sheets.{step-length, steps-length, size}
 use Rattle.sheet.specs.Writing.{listed, unequal, ruled, ruledSize, bufferOf}
 
 -- ---- the list
