@@ -125,7 +125,7 @@ pub extern "C" fn sheet_rehearse(
     if told.len() < LENGTH {
         return rules::NO_ROOM;
     }
-    let done = world::run::rehearse(sheet, world, out);
+    let done = rehearsal::rehearse(sheet, world, out);
     if done.answer != 0 {
         return done.answer;
     }

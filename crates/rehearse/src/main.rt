@@ -54,8 +54,8 @@ fn main() {
     }
     let n = input.length;
     let mut buffer = [0u8; 65536];
-    let mut out = [0u8; world::run::LONGEST];
-    let done = world::run::rehearse(&sheet[..n], &mut buffer, &mut out);
+    let mut out = [0u8; rehearsal::LONGEST];
+    let done = rehearsal::rehearse(&sheet[..n], &mut buffer, &mut out);
     let length = done.length;
     if !io::write_all(STDOUT_FILENO, &out[..length]) {
         io::write_all(

@@ -7,5 +7,4 @@ pub mod Commit
 pub mod Routes
 pub mod Begun
 pub mod Keeps
-pub mod Moves
-pub mod Playing
+pub mod Tracing

@@ -1,3 +1,3 @@
 pub mod Answer
 pub mod Commits
-pub mod Playing
+pub mod Tracing

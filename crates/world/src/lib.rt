@@ -17,6 +17,7 @@ ghost use Rattle.world.specs.Answer.{lentOf, accepted};
 ghost use Rattle.locality.specs.Narrow.{generatorOfBody, move, moveOfBody};
 ghost use Rattle.locality.specs.Asked.{Few, relayAsked, deskAsked};
 ghost use Rattle.world.specs.Commits.{freeRow, delivered, relayLeft, deskLeft, relayActs, deskActs, placeAct, actorOf};
+ghost use Rattle.world.specs.Tracing.{waitingRows};
 use rules::Desk;
 use rules::Step;
 use stamps::Pair;
@@ -356,4 +357,13 @@ pub fn start(w: &mut [u8], mask: u8) -> Answer
     begin::put_relays(w, mask);
     begin::put_desks(w, mask);
     tells(Event::Nothing, 0)
+}
+
+// ---- what waits
+
+// How many places hold a message, of whatever bytes.
+pub fn waiting(w: &[u8]) -> u32
+    ensures { λ r. ⌜ r ≡ waitingRows (now (w .entry)) ⌝ }
+{
+    (rules::PLACES - reads::free_places(w)) as u32
 }

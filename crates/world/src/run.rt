@@ -1,19 +1,16 @@
-// A whole run of a sheet, and its printed record. Document 01, "Sheets and the printed record".
+// A whole run of a sheet: a row of its trace for each step, and the last world. Document 01, "Sheets and the printed record".
 ghost use mathlib.Core.Path.{_≡_};
 ghost use mathlib.Core.Bool.{true, false};
 ghost use mathlib.Core.List.{[], _∷_};
-ghost use Prim.Native.Nat.{_+_, _≤_};
+ghost use Prim.Native.Nat.{_*_, _≤_};
 ghost use lib.ListN.{length, getD};
-ghost use Rattle.rules.specs.State.{World, start};
-ghost use Rattle.rules.specs.Sending.{waitingIn};
-ghost use Rattle.rules.specs.WellFormed.{wellFormed};
-ghost use Rattle.layout.specs.Image.{image, worldAt, goodBytes};
+ghost use Rattle.rows.specs.Bytes.{placed};
 ghost use Rattle.rules.specs.Sheets.{badSheet};
-ghost use Rattle.rules.specs.Runs.{fields, lastWorld, printed, endOf};
+ghost use Rattle.rules.specs.Runs.{fields, outcomes, lastWorld};
+ghost use Rattle.layout.specs.Image.{image, worldAt, goodBytes};
 ghost use Rattle.sheet.specs.Reading.{stepsFrom};
-ghost use Rattle.record.specs.Lines.{laid, past};
-ghost use Rattle.world.specs.Answer.{reportOf};
-ghost use Rattle.world.specs.Playing.{columnsOf, Stepped, Ran, bad-sheet, answerBy, laidBy, rehearseAnswer, worldLeft, recordLeft};
+ghost use Rattle.world.specs.Answer.{reportOf, columns};
+ghost use Rattle.world.specs.Tracing.{columnsOf, traceRowWidth, columnsBytes, traceRows, Stepped, traceAnswer, traceWorld, traceLeft};
 use super::Answer;
 use super::Report;
 use rules::Step;
@@ -67,165 +64,109 @@ pub fn columns_of(a: Answer) -> Columns
     }
 }
 
-// ---- steps
+// ---- a row of the trace: where each column stands in it, and how wide it is, as specs/Tracing.antt has it
 
-// The position past the lines, and what the accepted steps delivered and dropped.
-struct Tally {
-    at: usize,
-    delivered: u32,
-    dropped: u32,
-}
+pub const TRACE_ANSWER: usize = 0;
 
-// "a line a step: number from 1, answer, event, who, stamp count, stamp desk"
-fn turn(w: &mut [u8], out: &mut [u8], at: usize, number: u32, k: Step) -> Tally
-    requires { ⌜ goodBytes (now w) ≡ true ⌝ }
-    ensures { λ r. ⌜ Stepped (worldAt (now (w .entry))) k number at (now (out .entry)) (now (w .exit)) (now (out .exit)) r ⌝ }
+pub const TRACE_EVENT: usize = TRACE_ANSWER + layout::BYTE_WIDTH;
+
+pub const TRACE_WHO: usize = TRACE_EVENT + layout::BYTE_WIDTH;
+
+pub const TRACE_COUNT: usize = TRACE_WHO + layout::BYTE_WIDTH;
+
+pub const TRACE_DESK: usize = TRACE_COUNT + layout::U16_WIDTH;
+
+pub const TRACE_LAST: usize = TRACE_DESK + layout::BYTE_WIDTH;
+
+pub const TRACE_ROW: usize = TRACE_LAST + layout::U32_WIDTH;
+
+fn put_row(rows: &mut [u8], at: usize, a: Answer)
+    ensures { λ _. ⌜ now (rows .exit) ≡ placed (now (rows .entry)) at (columnsBytes (columns a)) ⌝ }
 {
-    let kind = k.kind;
-    let a = super::step_good(w, k);
     let answer = a.number;
     let c = columns_of(a);
-    let next = record::put_step(
-        out,
-        at,
-        number,
-        answer,
-        c.event,
-        c.who,
-        c.count,
-        c.desk,
+    let widths = [1u8, 1, 1, 2, 1, 4];
+    let xs = [
+        answer as u32,
+        c.event as u32,
+        c.who as u32,
+        c.count as u32,
+        c.desk as u32,
         c.last,
-    );
-    Tally {
-        at: next,
-        delivered: ((answer == 0) & (kind == 6)) as u32,
-        dropped: ((answer == 0) & (kind == 7)) as u32,
-    }
+    ];
+    rows::put_fields(rows, at, &widths, &xs);
 }
 
-// "It is read from the front one step at a time"; "a line a step: number from 1, .."
-fn turns(sheet: &[u8], w: &mut [u8], out: &mut [u8], at: usize) -> Tally
+// ---- steps
+
+// One step of a good world, and its row.
+fn turn(w: &mut [u8], rows: &mut [u8], at: usize, k: Step)
+    requires { ⌜ goodBytes (now w) ≡ true ⌝ }
+    ensures { λ _. ⌜ Stepped (worldAt (now (w .entry))) k at (now (rows .entry)) (now (w .exit)) (now (rows .exit)) ⌝ }
+{
+    let a = super::step_good(w, k);
+    put_row(rows, at, a);
+}
+
+// "It is read from the front one step at a time"
+fn turns(sheet: &[u8], w: &mut [u8], rows: &mut [u8])
     requires { ⌜ (goodBytes (now w) ≡ true) × (badSheet (now sheet) ≡ false) ⌝ }
-    ensures { λ r. ⌜ Ran (worldAt (now (w .entry))) (stepsFrom (now (sheet .entry)) 6) at (now (out .entry)) (now (w .exit)) (now (out .exit)) r ⌝ }
+    requires { ⌜ length (stepsFrom (now sheet) 6) * traceRowWidth ≤ length (now rows) ⌝ }
+    ensures world { λ _. ⌜ now (w .exit) ≡ image (lastWorld (worldAt (now (w .entry))) (stepsFrom (now (sheet .entry)) 6)) ⌝ }
+    ensures rows { λ _. ⌜ now (rows .exit)
+        ≡ placed (now (rows .entry)) 0 (traceRows (outcomes (worldAt (now (w .entry))) (stepsFrom (now (sheet .entry)) 6))) ⌝ }
 {
     let mut from = sheet::HEAD;
-    let mut number: u32 = 1;
-    let mut p = at;
-    let mut delivered: u32 = 0;
-    let mut dropped: u32 = 0;
+    let mut at = 0;
     loop {
         let taken = sheet::reader::read_at(sheet, from);
         let found = taken.found;
         let Found::At(k) = found else {
-            return Tally {
-                at: p,
-                delivered: delivered,
-                dropped: dropped,
-            };
+            return;
         };
-        let t = turn(w, out, p, number, k);
-        p = t.at;
-        delivered += t.delivered;
-        dropped += t.dropped;
-        number += 1;
+        turn(w, rows, at, k);
+        at += TRACE_ROW;
         from = taken.at;
     }
 }
 
 // ---- the whole
 
-// "The first three are counted from the accepted steps, waiting from the last world; sent is the sum of the others."
-fn put_totals(w: &[u8], out: &mut [u8], t: Tally) -> usize
-    requires { ⌜ (t .delivered ≤ 8000) × (t .dropped ≤ 8000) ⌝ }
-    ensures position { λ r. ⌜ ((W : World) → wellFormed W ≡ true → now (w .entry) ≡ image W
-        → r ≡ past (t .at) (endOf (t .delivered + t .dropped + waitingIn (W .places)) (t .delivered) (t .dropped) (waitingIn (W .places)))) ⌝ }
-    ensures bytes { λ _. ⌜ ((W : World) → wellFormed W ≡ true → now (w .entry) ≡ image W
-        → now (out .exit) ≡ laid (now (out .entry)) (t .at) (endOf (t .delivered + t .dropped + waitingIn (W .places)) (t .delivered) (t .dropped) (waitingIn (W .places)))) ⌝ }
-{
-    let waiting = 256 - super::reads::free_places(w) as u32;
-    record::put_end(
-        out,
-        t.at,
-        t.delivered + t.dropped + waiting,
-        t.delivered,
-        t.dropped,
-        waiting,
-    )
-}
-
-// An accepted sheet.
-fn play(sheet: &[u8], mask: u8, w: &mut [u8], out: &mut [u8]) -> usize
-    requires { ⌜ (length (now w) ≡ 65536) × ((badSheet (now sheet) ≡ false) × (mask ≡ getD (now sheet) 5 0)) ⌝ }
-    ensures position { λ r. ⌜ r ≡ past 0 (printed mask (stepsFrom (now (sheet .entry)) 6)) ⌝ }
-    ensures bytes { λ _. ⌜ now (out .exit) ≡ laid (now (out .entry)) 0 (printed mask (stepsFrom (now (sheet .entry)) 6)) ⌝ }
-    ensures world { λ _. ⌜ now (w .exit) ≡ image (lastWorld (start mask) (stepsFrom (now (sheet .entry)) 6)) ⌝ }
-{
-    super::start(w, mask);
-    let at = record::put_start(out, mask);
-    let t = turns(sheet, w, out, at);
-    put_totals(w, out, t)
-}
-
-// The answer, and how many bytes of a record stand in the buffer for it.
-pub struct Rehearsed {
+// The answer, and how many rows stand in the buffer for them.
+pub struct Traced {
     pub answer: u8,
-    pub length: usize,
+    pub steps: usize,
 }
 
-// The longest start and end of a record, and the longest line of a step.
-const ENDS: usize = 33;
-
-const LINE: usize = 30;
-
-// The longest record: that of 8,000 steps.
-pub const LONGEST: usize = 240033;
-
-// `bad 9`, and the newline.
-const BAD: usize = 6;
-
-// "For BAD SHEET it prints `bad 9` only": whole, or not at all.
-fn refuse_sheet(out: &mut [u8]) -> Rehearsed
-    ensures answer { λ r. ⌜ r ≡ answerBy (now (out .entry)) bad-sheet ⌝ }
-    ensures bytes { λ _. ⌜ now (out .exit) ≡ laidBy (now (out .entry)) bad-sheet ⌝ }
-{
-    if out.len() < BAD {
-        return Rehearsed {
-            answer: rules::BAD_SHEET,
-            length: 0,
-        };
-    }
-    let length = record::put_bad(out);
-    Rehearsed {
-        answer: rules::BAD_SHEET,
-        length: length,
-    }
-}
-
-// What `rehearse` prints for a sheet, and the last world. Whether there is room is decided before anything is done.
-pub fn rehearse(sheet: &[u8], world: &mut [u8], out: &mut [u8]) -> Rehearsed
-    ensures answer { λ r. ⌜ r ≡ rehearseAnswer (now (sheet .entry)) (now (world .entry)) (now (out .entry)) ⌝ }
-    ensures last { λ _. ⌜ now (world .exit) ≡ worldLeft (now (sheet .entry)) (now (world .entry)) (now (out .entry)) ⌝ }
-    ensures printed { λ _. ⌜ now (out .exit) ≡ recordLeft (now (sheet .entry)) (now (world .entry)) (now (out .entry)) ⌝ }
+// The trace of a sheet's run from the start of its mask, from the front of `rows`, and the last world. Whether there is room is decided before anything is done.
+pub fn trace(sheet: &[u8], world: &mut [u8], rows: &mut [u8]) -> Traced
+    ensures answer { λ r. ⌜ r ≡ traceAnswer (now (sheet .entry)) (now (world .entry)) (now (rows .entry)) ⌝ }
+    ensures last { λ _. ⌜ now (world .exit) ≡ traceWorld (now (sheet .entry)) (now (world .entry)) (now (rows .entry)) ⌝ }
+    ensures rows { λ _. ⌜ now (rows .exit) ≡ traceLeft (now (sheet .entry)) (now (world .entry)) (now (rows .entry)) ⌝ }
 {
     if world.len() != layout::WORLD_WIDTH {
-        return Rehearsed {
+        return Traced {
             answer: rules::BAD_WORLD,
-            length: 0,
+            steps: 0,
         };
     }
     let s = sheet::check(sheet);
     if s.bad {
-        return refuse_sheet(out);
-    }
-    if out.len() < ENDS + LINE * s.steps {
-        return Rehearsed {
-            answer: rules::NO_ROOM,
-            length: 0,
+        return Traced {
+            answer: rules::BAD_SHEET,
+            steps: 0,
         };
     }
-    let length = play(sheet, s.mask, world, out);
-    Rehearsed {
+    if rows.len() < s.steps * TRACE_ROW {
+        return Traced {
+            answer: rules::NO_ROOM,
+            steps: 0,
+        };
+    }
+    super::start(world, s.mask);
+    turns(sheet, world, rows);
+    Traced {
         answer: 0,
-        length: length,
+        steps: s.steps,
     }
 }

@@ -1,7 +1,7 @@
 -- `world::run::columns_of` meets its contract. Assumes nothing.
 use borrow.Author.Needs.{needs}
 use Rattle.world.specs.Answer.{reportOf}
-use Rattle.world.specs.Playing.{columnsOf}
+use Rattle.world.specs.Tracing.{columnsOf}
 use Rattle.world.proofs.run.columns_of.Statement.{statement}
 use Rattle.world.proofs.run.columns_of.Tie as tie
 

@@ -1,6 +1,6 @@
 -- `world::run::ended` meets its contract. Assumes nothing.
 use mathlib.Core.Path.{refl}
-use Rattle.world.specs.Playing.{columnsOf}
+use Rattle.world.specs.Tracing.{columnsOf}
 use Rattle.world.proofs.run.ended.Statement.{statement}
 use Rattle.world.proofs.run.ended.Tie as tie
 
