@@ -26,7 +26,7 @@ use Rattle.world.specs.declared.Answer.{Answer}
 use Rattle.world.specs.declared.Report.{Report}
 use Rattle.world.specs.declared.Report.the-variants.{Nothing, Opened, ReadDone, WriteDone}
 use Rattle.world.specs.Answer.{reportOf, lentOf}
-use Rattle.world.specs.Playing.{rehearseAnswer, worldLeft, recordLeft}
+use Rattle.rehearsal.specs.Playing.{rehearseAnswer, worldLeft, recordLeft}
 use Rattle.certificate.specs.Code.{Code, Promised}
 
 -- ---- a report of the rules as the code has it: "an event tells who; event 0 has zero fields"

@@ -32,7 +32,7 @@ use Rattle.record.proofs.Laying.{laid-whole}
 use Rattle.record.proofs.Whole.{printed-is}
 use Rattle.world.specs.Answer.{lentOf, columns}
 use Rattle.world.specs.declared.Answer.{Answer}
-use Rattle.world.specs.Playing.{decided, laidBy, recordLeft}
+use Rattle.rehearsal.specs.Playing.{decided, laidBy, recordLeft}
 use Rattle.certificate.specs.Code.{Code}
 use Rattle.certificate.specs.Demand2.{ranBy, toldBy, outcomeLine, Demand2}
 use Rattle.certificate.proofs.Differ.{differ, entry}
@@ -263,7 +263,7 @@ module _ (c : Code) (d : Demand2 c) where
 
 -- ---- "Invented totals are ruled out by the tie to the steps taken."
 
--- what `world::run::rehearse` promises to leave in a buffer with room is the record, and the bytes past it as they were
+-- what `rehearsal::rehearse` promises to leave in a buffer with room is the record, and the bytes past it as they were
 pub record-promised : (b world out : List ℕ) (mask : ℕ) (ks : List Step) → length world ≡ worldWidth → sheetIn b ≡ sheet mask ks → longest (length ks) ≤ length out
     → recordLeft b world out ≡ printed mask ks ++ drop (length (printed mask ks)) out
 unfolding recordLeft decided laidBy
@@ -312,7 +312,7 @@ module _ (mask : ℕ) (ks : List Step) (some : 0 < mask) (byte : mask < 256) (fe
       end-read sent delivered dropped waiting (sum sentBy os) (sum deliveredBy os) (sum droppedBy os) waits t u small counted-small
       (after-all lines (invented ++ t) (counted ++ u) (after-all (startOf mask) (lines ++ (invented ++ t)) (lines ++ (counted ++ u)) same))
 
-  -- the same of what `world::run::rehearse` promises to leave in a buffer with room
+  -- the same of what `rehearsal::rehearse` promises to leave in a buffer with room
   pub rehearse-tied : (b world out : List ℕ) → length world ≡ worldWidth → sheetIn b ≡ sheet mask ks → longest (length ks) ≤ length out
       → (sent delivered dropped waiting : ℕ) (t : List ℕ) → Small sent delivered dropped waiting
       → withTotals mask ks sent delivered dropped waiting ++ t ≡ recordLeft b world out
@@ -338,7 +338,7 @@ invented-totals sent delivered dropped waiting p =
     let some : endOf sent delivered dropped waiting ≡ endOf 1 0 0 1 = ap (drop 22) (p 1 (write ∷ []) (lit< tt) (lit< tt) (lit≤ tt)) in
     differ (entry 4) (sym none ∙ some) tt
 
--- the same of `world::run::rehearse`: a program that lays the record of every sheet with these four totals does not keep its promise, though it may do as it likes
+-- the same of `rehearsal::rehearse`: a program that lays the record of every sheet with these four totals does not keep its promise, though it may do as it likes
 -- with a world of another length and without room
 module _ (sent delivered dropped waiting : ℕ) (small : Small sent delivered dropped waiting) where
   laid-counted : (b : List ℕ) (ks : List Step) → sheetIn b ≡ sheet 1 ks → length ks ≤ version1 .mostSteps

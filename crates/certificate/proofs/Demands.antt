@@ -40,9 +40,10 @@ use Rattle.sheet.proofs.Writing as writing
 use Rattle.sheet.proofs.Slices.{sliced, listed-back, ruled-list}
 use Rattle.sheet.proofs.Back.{same-bytes, again, back, smalls}
 use Rattle.world.specs.declared.Answer.{Answer}
-use Rattle.world.specs.declared.run.Rehearsed.{Rehearsed}
+use Rattle.rehearsal.specs.declared.Rehearsed.{Rehearsed}
 use Rattle.world.specs.Answer.{lentOf, columns, reportOf}
-use Rattle.world.specs.Playing.{Ruling, bad-world, bad-sheet, no-room, runs, roomFor, decided, numberBy, recordBy, answerBy, laidBy, worldBy, rehearseAnswer, worldLeft, recordLeft}
+use Rattle.world.specs.Tracing.{Ruling, bad-world, bad-sheet, no-room, runs, roomFor, numberBy, worldBy}
+use Rattle.rehearsal.specs.Playing.{decided, recordBy, answerBy, laidBy, rehearseAnswer, worldLeft, recordLeft}
 use Rattle.certificate.specs.Code.{Code, Promised}
 use Rattle.certificate.specs.Demand1.{Rows, BAD-SHEET, stepRows, startRows, checkRows, writeRows, rehearseRows, Numbered, refusedRecord, checkNumber, Demand1ForAll}
 use Rattle.certificate.specs.Demand2.{ranBy, toldBy, before, readFrom, readBy, Below, Demand2ForAll}
@@ -220,14 +221,14 @@ module _ (w out : List ℕ) where
 module _ (b w out : List ℕ) where
   -- by the world's length, the sheet, and the room
   abbrev decidedBy : Bool → Sheet → Ruling
-  decidedBy long s = if long then roomFor (length out) s else bad-world
+  decidedBy long s = if long then roomFor longest (length out) s else bad-world
 
   rehearse-first : numberBy (decided b w out) ≡ firstOf (rehearseRows b w out)
   unfolding decided
   rehearse-first = go (eqb (length w) worldWidth) (sheetIn b) refl
     where
       room : (mask : ℕ) (ks : List Step) (n : ℕ) → n ≡ length ks
-          → numberBy (roomFor (length out) (sheet mask ks)) ≡ firstOf ((ltb (length out) (longest n), number refusals.no-room) ∷ [])
+          → numberBy (roomFor longest (length out) (sheet mask ks)) ≡ firstOf ((ltb (length out) (longest n), number refusals.no-room) ∷ [])
       room mask ks n e = rw e (pick (ltb (length out) (longest (length ks))))
         where
           pick : (x : Bool) → numberBy (if x then no-room else runs mask ks) ≡ firstOf ((x, number refusals.no-room) ∷ [])

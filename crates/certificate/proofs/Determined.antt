@@ -59,7 +59,8 @@ use Rattle.sheet.specs.declared.Written.the-variants.{Done, BadSheet, NoRoom}
 use Rattle.sheet.specs.declared.reader.Reader.{Reader}
 use Rattle.record.specs.Lines.{laid, past, stepOf}
 use Rattle.world.specs.Answer.{reportOf, lentOf}
-use Rattle.world.specs.Playing.{columnsOf, rehearseAnswer, worldLeft, recordLeft}
+use Rattle.world.specs.Tracing.{columnsOf, waitingRows, traceAnswer, traceWorld, traceLeft}
+use Rattle.rehearsal.specs.Playing.{rehearseAnswer, worldLeft, recordLeft}
 use Rattle.world.specs.declared.Answer.{Answer}
 use Rattle.world.specs.declared.Report.{Report}
 use Rattle.world.specs.declared.Report.the-variants.{Nothing, Opened, ReadDone, WriteDone}
@@ -506,14 +507,28 @@ columns-back r s e = λ i. record { event = getD (e i) 0 0; who = getD (e i) 1 0
 pub world-columns-of : (a : Answer) → Determined (λ r. columnsOf r ≡ fields (reportOf (a .report) .event) (reportOf (a .report) .who))
 world-columns-of a r s e f = columns-back r s (e ∙ sym f)
 
-pub world-rehearse-answer : (sheet world out : List ℕ) → Determined (λ r. r ≡ rehearseAnswer sheet world out)
-world-rehearse-answer sheet world out = by-equation (rehearseAnswer sheet world out)
+pub world-waiting : (w : List ℕ) → Determined (λ r. r ≡ waitingRows w)
+world-waiting w = by-equation (waitingRows w)
 
-pub world-rehearse-last : (sheet world out : List ℕ) → Determined (λ b. b ≡ worldLeft sheet world out)
-world-rehearse-last sheet world out = by-equation (worldLeft sheet world out)
+pub world-trace-answer : (sheet world rows : List ℕ) → Determined (λ r. r ≡ traceAnswer sheet world rows)
+world-trace-answer sheet world rows = by-equation (traceAnswer sheet world rows)
 
-pub world-rehearse-printed : (sheet world out : List ℕ) → Determined (λ b. b ≡ recordLeft sheet world out)
-world-rehearse-printed sheet world out = by-equation (recordLeft sheet world out)
+pub world-trace-last : (sheet world rows : List ℕ) → Determined (λ b. b ≡ traceWorld sheet world rows)
+world-trace-last sheet world rows = by-equation (traceWorld sheet world rows)
+
+pub world-trace-rows : (sheet world rows : List ℕ) → Determined (λ b. b ≡ traceLeft sheet world rows)
+world-trace-rows sheet world rows = by-equation (traceLeft sheet world rows)
+
+-- ---- rehearsal
+
+pub rehearsal-rehearse-answer : (sheet world out : List ℕ) → Determined (λ r. r ≡ rehearseAnswer sheet world out)
+rehearsal-rehearse-answer sheet world out = by-equation (rehearseAnswer sheet world out)
+
+pub rehearsal-rehearse-last : (sheet world out : List ℕ) → Determined (λ b. b ≡ worldLeft sheet world out)
+rehearsal-rehearse-last sheet world out = by-equation (worldLeft sheet world out)
+
+pub rehearsal-rehearse-printed : (sheet world out : List ℕ) → Determined (λ b. b ≡ recordLeft sheet world out)
+rehearsal-rehearse-printed sheet world out = by-equation (recordLeft sheet world out)
 
 -- ---- engine; the answer and each buffer that is lent, each with a promise of its own
 

@@ -1,13 +1,13 @@
--- Wrong programs that the promises rule out: good, world and engine. Assumes nothing.
+-- Wrong programs that the promises rule out: good, world, rehearsal and engine. Assumes nothing.
 use mathlib.Core.Path.{_≡_, refl, sym, ap, _∙_}
 use mathlib.Core.Bool.{Bool, true, false, not, _&&_}
 use mathlib.Core.List.{List, [], _∷_, _++_}
 use Prim.Native.Nat.{ℕ}
 use lib.Dec.{T, eqb, leb, ltb}
-use lib.ListN.{length, getD, replicate}
-use Rattle.rows.specs.Bytes.{numberAt, splice, placed, bytesOf, be32, run, cat, zeros}
+use lib.ListN.{length, getD, drop, replicate}
+use Rattle.rows.specs.Bytes.{numberAt, splice, placed, bytesOf, fieldsOf, be32, run, cat, zeros}
 use Rattle.rows.specs.Tests.{all, allZero}
-use Rattle.rules.specs.Sets.{if_then_else_}
+use Rattle.rules.specs.Sets.{if_then_else_, those}
 use Rattle.rules.specs.State.{World, noRelay, start}
 use Rattle.rules.specs.Sending.{waitingIn}
 use Rattle.rules.specs.WellFormed.{wellFormed}
@@ -17,8 +17,8 @@ use Rattle.layout.specs.Layout.{worldWidth}
 use Rattle.layout.specs.Image.{image, goodBytes}
 use Rattle.layout.specs.Lent.{Lent, left, lentStart, lentStep}
 use Rattle.rules.specs.Sheets as sheets
-use Rattle.rules.specs.Sheets.{formOf, maskIn, formIn, stepsIn, allZerosIn, badSheet, listBy, sheetIn}
-use Rattle.rules.specs.Runs.{outcomes, sentBy, deliveredBy, droppedBy, sum, fields, digits, line, stepLines, lastWorld, longest, rehearsed, startOf, endOf, badOf}
+use Rattle.rules.specs.Sheets.{formOf, maskIn, formIn, stepsOf, stepsIn, allZerosIn, badSheet, listBy, sheetIn}
+use Rattle.rules.specs.Runs.{outcomes, sentBy, deliveredBy, droppedBy, sum, answer, fields, digits, line, stepLines, lastWorld, longest, rehearsed, startOf, endOf, badOf}
 use Rattle.rules.specs.Examples.{recorded}
 use Rattle.rules.proofs.Kept.{step-keeps, run-keeps}
 use Rattle.layout.proofs.Widths.{length-image}
@@ -27,10 +27,13 @@ use Rattle.sheet.specs.Writing as writing
 use Rattle.sheet.specs.Writing.{listed, bufferOf}
 use Rattle.record.specs.Lines.{laid}
 use Rattle.world.specs.Answer.{reportOf, lentOf}
-use Rattle.world.specs.Playing.{roomFor, decided, answerBy, laidBy, worldBy, rehearseAnswer, worldLeft, recordLeft}
+use Rattle.world.specs.Tracing.{waitingRows, traceRow, traceRows, Ruling, roomFor, numberBy, worldBy, tracesWide, traced, stepsBy, traceBy, traceAnswer, traceWorld, traceLeft}
+use Rattle.rehearsal.specs.Playing.{decided, answerBy, laidBy, rehearseAnswer, worldLeft, recordLeft}
 use Rattle.world.specs.declared.Answer.{Answer}
 use Rattle.world.specs.declared.Report.the-variants.{Nothing, WriteDone}
-use Rattle.world.specs.declared.run.Rehearsed.{Rehearsed}
+use Rattle.world.specs.declared.run.Traced.{Traced}
+use Rattle.world.proofs.Tracing.{waiting-rows}
+use Rattle.rehearsal.specs.declared.Rehearsed.{Rehearsed}
 use Rattle.engine.specs.Told.{goodNumber, sheetNumber, toldBytes, toldOf, Stepped, telling, toldStep, toldRehearsal}
 use Rattle.certificate.proofs.RuledOutSheets.{headed}
 use Rattle.certificate.proofs.Differ.{differ, itself, truth, entry}
@@ -110,41 +113,36 @@ pub world-columns-of-desk-0-always : ¬ ((a : Answer) → T (in-Answer a)
 unfolding reportOf
 world-columns-of-desk-0-always p = differ (entry 1) (p wrote tt) tt
 
--- a sheet with mask 1 and no step; a page that its record fills, one with room for the record of a step, and one of a byte
+-- one place of `sent` holds a message, and none of `one`
+abbrev sent : World
+sent = after (start 1) (stepped (start 1) write)
+
+sent-formed : wellFormed sent ≡ true
+sent-formed = step-keeps (start 1) write one-formed
+
+pub world-waiting-none-always : ¬ ((w : List ℕ) → T (in-bytes w) → 0 ≡ waitingRows w)
+unfolding recorded
+world-waiting-none-always p = differ itself (p (image sent) (image-bytes sent sent-formed) ∙ waiting-rows sent (image sent) sent-formed refl) tt
+
+pub world-waiting-all-always : ¬ ((w : List ℕ) → T (in-bytes w) → 256 ≡ waitingRows w)
+unfolding recorded
+world-waiting-all-always p = differ itself (p one one-bytes ∙ waiting-rows (start 1) one one-formed refl) tt
+
+-- a sheet with mask 1 and no step
 abbrev pub blank : List ℕ
 blank = headed (1 ∷ [])
 
-abbrev page : List ℕ
-page = replicate 20 7
+-- the sheet of one step, WRITE 0 77
+abbrev pub written : List ℕ
+written = headed (1 ∷ 5 ∷ 0 ∷ 0 ∷ 0 ∷ 0 ∷ 0 ∷ 0 ∷ 77 ∷ [])
 
-abbrev wide : List ℕ
-wide = replicate 70 7
+-- the sheet of one step that is refused, DELIVER 0
+abbrev refused : List ℕ
+refused = headed (1 ∷ 6 ∷ 0 ∷ 0 ∷ 0 ∷ 0 ∷ 0 ∷ 0 ∷ 0 ∷ [])
 
-abbrev narrow : List ℕ
-narrow = 7 ∷ []
-
-pub world-rehearse-answer-done-always : ¬ ((sheet world out : List ℕ) → T (in-bytes sheet) → T (in-bytes world) → T (in-bytes out)
-    → record { answer = 0; length = length (rehearsed sheet) } ≡ rehearseAnswer sheet world out)
-unfolding rehearseAnswer decided answerBy
-world-rehearse-answer-done-always p = differ (λ (r : Rehearsed). r .answer) (p blank [] page tt tt tt) tt
-
--- with a world of the right length
-module _ (world : List ℕ) (e : length world ≡ worldWidth) (sheet out : List ℕ) where
-  ruled-there : decided sheet world out ≡ roomFor (length out) (sheetIn sheet)
-  unfolding decided
-  ruled-there = rw e
-
-  answered-there : rehearseAnswer sheet world out ≡ answerBy out (roomFor (length out) (sheetIn sheet))
-  unfolding rehearseAnswer
-  answered-there = ap (answerBy out) ruled-there
-
-  left-there : worldLeft sheet world out ≡ worldBy world (roomFor (length out) (sheetIn sheet))
-  unfolding worldLeft
-  left-there = ap (worldBy world) ruled-there
-
-  printed-there : recordLeft sheet world out ≡ laidBy out (roomFor (length out) (sheetIn sheet))
-  unfolding recordLeft
-  printed-there = ap (laidBy out) ruled-there
+-- room for a row
+abbrev row : List ℕ
+row = replicate 10 7
 
 -- a test of the world's length, where it is right
 long-right : {A : Type 0} (world : List ℕ) → length world ≡ worldWidth → (a b : A) → (if eqb (length world) worldWidth && true then a else b) ≡ a
@@ -156,66 +154,152 @@ one-long = length-image (start 1)
 abbrev two-long : length two ≡ worldWidth
 two-long = length-image (start 2)
 
-pub world-rehearse-answer-done-without-room : ¬ ((sheet world out : List ℕ) → T (in-bytes sheet) → T (in-bytes world) → T (in-bytes out)
+pub world-trace-answer-done-always : ¬ ((sheet world rows : List ℕ) → T (in-bytes sheet) → T (in-bytes world) → T (in-bytes rows)
+    → record { answer = 0; steps = stepsOf sheet } ≡ traceAnswer sheet world rows)
+unfolding traceAnswer traced
+world-trace-answer-done-always p = differ (λ (r : Traced). r .answer) (p blank [] row tt tt tt) tt
+
+abbrev answerAfter : Ruling → Traced
+answerAfter x = record { answer = numberBy x; steps = stepsBy x }
+
+abbrev laidAfter : List ℕ → List ℕ → List ℕ
+laidAfter rows l = l ++ drop (length l) rows
+
+-- with a world of the right length
+module _ (world : List ℕ) (e : length world ≡ worldWidth) (sheet rows : List ℕ) where
+  traced-there : traced sheet world rows ≡ roomFor tracesWide (length rows) (sheetIn sheet)
+  unfolding traced
+  traced-there = rw e
+
+  trace-answered-there : traceAnswer sheet world rows ≡ answerAfter (roomFor tracesWide (length rows) (sheetIn sheet))
+  unfolding traceAnswer
+  trace-answered-there = ap answerAfter traced-there
+
+  trace-world-there : traceWorld sheet world rows ≡ worldBy world (roomFor tracesWide (length rows) (sheetIn sheet))
+  unfolding traceWorld
+  trace-world-there = ap (worldBy world) traced-there
+
+  trace-laid-there : traceLeft sheet world rows ≡ laidAfter rows (traceBy (roomFor tracesWide (length rows) (sheetIn sheet)))
+  unfolding traceLeft
+  trace-laid-there = ap (λ (x : Ruling). laidAfter rows (traceBy x)) traced-there
+
+pub world-trace-answer-done-without-room : ¬ ((sheet world rows : List ℕ) → T (in-bytes sheet) → T (in-bytes world) → T (in-bytes rows)
+    → (if eqb (length world) worldWidth && not (badSheet sheet) then record { answer = 0; steps = stepsOf sheet } else traceAnswer sheet world rows)
+    ≡ traceAnswer sheet world rows)
+unfolding sheetIn stepsIn allZerosIn allZero all formOf numberAt
+world-trace-answer-done-without-room p =
+    differ (λ (r : Traced). r .answer) (sym (long-right one one-long _ _) ∙ p written one [] tt one-bytes tt ∙ trace-answered-there one one-long written []) tt
+
+pub world-trace-last-as-it-was : ¬ ((sheet world rows : List ℕ) → T (in-bytes sheet) → T (in-bytes world) → T (in-bytes rows)
+    → world ≡ traceWorld sheet world rows)
+unfolding sheetIn stepsIn allZerosIn lastWorld allZero all formOf numberAt
+world-trace-last-as-it-was p = starts-differ (p blank two row tt two-bytes tt ∙ trace-world-there two two-long blank row)
+
+pub world-trace-rows-nothing : ¬ ((sheet world rows : List ℕ) → T (in-bytes sheet) → T (in-bytes world) → T (in-bytes rows)
+    → rows ≡ traceLeft sheet world rows)
+unfolding sheetIn stepsIn allZerosIn recorded traceRows traceRow fieldsOf bytesOf numberAt allZero all formOf
+world-trace-rows-nothing p = differ (entry 0) (p written one row tt one-bytes tt ∙ trace-laid-there one one-long written row) tt
+
+-- a row for each accepted step only
+abbrev acceptedRows : ℕ → List Step → List ℕ
+acceptedRows mask ks = traceRows (those (λ o. eqb (answer o) 0) (outcomes (start mask) ks))
+
+pub world-trace-rows-of-accepted-steps-only : ¬ ((sheet world rows : List ℕ) → T (in-bytes sheet) → T (in-bytes world) → T (in-bytes rows)
+    → (if eqb (length world) worldWidth && not (badSheet sheet) then laidAfter rows (acceptedRows (maskIn sheet) (listBy (formIn sheet) sheet)) else traceLeft sheet world rows)
+    ≡ traceLeft sheet world rows)
+unfolding sheetIn stepsIn allZerosIn recorded traceRows traceRow fieldsOf bytesOf numberAt those allZero all formOf
+world-trace-rows-of-accepted-steps-only p =
+    differ (entry 0) (sym (long-right one one-long _ _) ∙ p refused one row tt one-bytes tt ∙ trace-laid-there one one-long refused row) tt
+
+-- ---- rehearsal
+
+-- a page that the record of no step fills, one with room for the record of a step, and one of a byte
+abbrev page : List ℕ
+page = replicate 20 7
+
+abbrev wide : List ℕ
+wide = replicate 70 7
+
+abbrev narrow : List ℕ
+narrow = 7 ∷ []
+
+pub rehearsal-rehearse-answer-done-always : ¬ ((sheet world out : List ℕ) → T (in-bytes sheet) → T (in-bytes world) → T (in-bytes out)
+    → record { answer = 0; length = length (rehearsed sheet) } ≡ rehearseAnswer sheet world out)
+unfolding rehearseAnswer decided answerBy
+rehearsal-rehearse-answer-done-always p = differ (λ (r : Rehearsed). r .answer) (p blank [] page tt tt tt) tt
+
+-- with a world of the right length
+module _ (world : List ℕ) (e : length world ≡ worldWidth) (sheet out : List ℕ) where
+  ruled-there : decided sheet world out ≡ roomFor longest (length out) (sheetIn sheet)
+  unfolding decided
+  ruled-there = rw e
+
+  answered-there : rehearseAnswer sheet world out ≡ answerBy out (roomFor longest (length out) (sheetIn sheet))
+  unfolding rehearseAnswer
+  answered-there = ap (answerBy out) ruled-there
+
+  left-there : worldLeft sheet world out ≡ worldBy world (roomFor longest (length out) (sheetIn sheet))
+  unfolding worldLeft
+  left-there = ap (worldBy world) ruled-there
+
+  printed-there : recordLeft sheet world out ≡ laidBy out (roomFor longest (length out) (sheetIn sheet))
+  unfolding recordLeft
+  printed-there = ap (laidBy out) ruled-there
+
+pub rehearsal-rehearse-answer-done-without-room : ¬ ((sheet world out : List ℕ) → T (in-bytes sheet) → T (in-bytes world) → T (in-bytes out)
     → (if eqb (length world) worldWidth && ltb (length out) (length (rehearsed sheet)) then record { answer = 0; length = length (rehearsed sheet) } else rehearseAnswer sheet world out) ≡ rehearseAnswer sheet world out)
-unfolding answerBy longest sheetIn stepsIn allZerosIn allZero all formOf numberAt recorded rehearsed
-world-rehearse-answer-done-without-room p =
+unfolding answerBy longest sheetIn stepsIn allZerosIn recorded rehearsed allZero all formOf numberAt
+rehearsal-rehearse-answer-done-without-room p =
     differ (λ (r : Rehearsed). r .answer) (sym (long-right one one-long _ _) ∙ p blank one [] tt one-bytes tt ∙ answered-there one one-long blank []) tt
 
 -- a record that would just fit, in a buffer that the longest of as many steps does not fit into
-pub world-rehearse-answer-room-by-the-record : ¬ ((sheet world out : List ℕ) → T (in-bytes sheet) → T (in-bytes world) → T (in-bytes out)
+pub rehearsal-rehearse-answer-room-by-the-record : ¬ ((sheet world out : List ℕ) → T (in-bytes sheet) → T (in-bytes world) → T (in-bytes out)
     → (if eqb (length world) worldWidth && leb (length (rehearsed sheet)) (length out) then record { answer = 0; length = length (rehearsed sheet) } else rehearseAnswer sheet world out) ≡ rehearseAnswer sheet world out)
-unfolding answerBy longest sheetIn stepsIn allZerosIn allZero all formOf numberAt recorded rehearsed
-world-rehearse-answer-room-by-the-record p =
+unfolding answerBy longest sheetIn stepsIn allZerosIn recorded rehearsed allZero all formOf numberAt
+rehearsal-rehearse-answer-room-by-the-record p =
     differ (λ (r : Rehearsed). r .answer) (sym (long-right one one-long _ _) ∙ p blank one page tt one-bytes tt ∙ answered-there one one-long blank page) tt
 
-pub world-rehearse-answer-bad-sheet-done : ¬ ((sheet world out : List ℕ) → T (in-bytes sheet) → T (in-bytes world) → T (in-bytes out)
+pub rehearsal-rehearse-answer-bad-sheet-done : ¬ ((sheet world out : List ℕ) → T (in-bytes sheet) → T (in-bytes world) → T (in-bytes out)
     → (if eqb (length world) worldWidth && badSheet sheet then record { answer = 0; length = length badOf } else rehearseAnswer sheet world out) ≡ rehearseAnswer sheet world out)
 unfolding answerBy sheetIn line digits
-world-rehearse-answer-bad-sheet-done p =
+rehearsal-rehearse-answer-bad-sheet-done p =
     differ (λ (r : Rehearsed). r .answer) (sym (long-right one one-long _ _) ∙ p [] one page tt one-bytes tt ∙ answered-there one one-long [] page) tt
 
-pub world-rehearse-last-as-it-was : ¬ ((sheet world out : List ℕ) → T (in-bytes sheet) → T (in-bytes world) → T (in-bytes out)
+pub rehearsal-rehearse-last-as-it-was : ¬ ((sheet world out : List ℕ) → T (in-bytes sheet) → T (in-bytes world) → T (in-bytes out)
     → world ≡ worldLeft sheet world out)
-unfolding longest line digits sheetIn stepsIn allZerosIn allZero all formOf numberAt lastWorld
-world-rehearse-last-as-it-was p = starts-differ (p blank two wide tt two-bytes tt ∙ left-there two two-long blank wide)
+unfolding longest line digits sheetIn stepsIn allZerosIn lastWorld allZero all formOf numberAt
+rehearsal-rehearse-last-as-it-was p = starts-differ (p blank two wide tt two-bytes tt ∙ left-there two two-long blank wide)
 
 -- the steps are run though the record has no room
-pub world-rehearse-last-run-without-room : ¬ ((sheet world out : List ℕ) → T (in-bytes sheet) → T (in-bytes world) → T (in-bytes out)
-    → (if eqb (length world) worldWidth && not (badSheet sheet) then image (lastWorld (start (maskIn sheet)) (listBy (formIn sheet) sheet))
-    else worldLeft sheet world out)
-    ≡ worldLeft sheet world out)
-unfolding longest line digits sheetIn stepsIn allZerosIn allZero all formOf numberAt lastWorld
-world-rehearse-last-run-without-room p = starts-differ (sym (sym (long-right two two-long _ _) ∙ p blank two narrow tt two-bytes tt ∙ left-there two two-long blank narrow))
+pub rehearsal-rehearse-last-run-without-room : ¬ ((sheet world out : List ℕ) → T (in-bytes sheet) → T (in-bytes world) → T (in-bytes out)
+    → (if eqb (length world) worldWidth && not (badSheet sheet) then image (lastWorld (start (maskIn sheet)) (listBy (formIn sheet) sheet)) else worldLeft sheet world out) ≡ worldLeft sheet world out)
+unfolding longest line digits sheetIn stepsIn allZerosIn lastWorld allZero all formOf numberAt
+rehearsal-rehearse-last-run-without-room p = starts-differ (sym (sym (long-right two two-long _ _) ∙ p blank two narrow tt two-bytes tt ∙ left-there two two-long blank narrow))
 
-pub world-rehearse-printed-nothing : ¬ ((sheet world out : List ℕ) → T (in-bytes sheet) → T (in-bytes world) → T (in-bytes out)
+pub rehearsal-rehearse-printed-nothing : ¬ ((sheet world out : List ℕ) → T (in-bytes sheet) → T (in-bytes world) → T (in-bytes out)
     → (if badSheet sheet then recordLeft sheet world out else out) ≡ recordLeft sheet world out)
-unfolding laidBy longest sheetIn stepsIn allZerosIn allZero all formOf numberAt recorded
-world-rehearse-printed-nothing p = differ (entry 0) (p blank one wide tt one-bytes tt ∙ printed-there one one-long blank wide) tt
+unfolding laidBy longest sheetIn stepsIn allZerosIn recorded allZero all formOf numberAt
+rehearsal-rehearse-printed-nothing p = differ (entry 0) (p blank one wide tt one-bytes tt ∙ printed-there one one-long blank wide) tt
 
-pub world-rehearse-printed-bad-always : ¬ ((sheet world out : List ℕ) → T (in-bytes sheet) → T (in-bytes world) → T (in-bytes out)
+pub rehearsal-rehearse-printed-bad-always : ¬ ((sheet world out : List ℕ) → T (in-bytes sheet) → T (in-bytes world) → T (in-bytes out)
     → laid out 0 badOf ≡ recordLeft sheet world out)
-unfolding laid laidBy longest sheetIn stepsIn allZerosIn allZero all formOf numberAt recorded
-world-rehearse-printed-bad-always p = differ (entry 0) (p blank one wide tt one-bytes tt ∙ printed-there one one-long blank wide) tt
+unfolding laid laidBy longest sheetIn stepsIn allZerosIn recorded allZero all formOf numberAt
+rehearsal-rehearse-printed-bad-always p = differ (entry 0) (p blank one wide tt one-bytes tt ∙ printed-there one one-long blank wide) tt
 
-pub world-rehearse-printed-bad-in-part : ¬ ((sheet world out : List ℕ) → T (in-bytes sheet) → T (in-bytes world) → T (in-bytes out)
+pub rehearsal-rehearse-printed-bad-in-part : ¬ ((sheet world out : List ℕ) → T (in-bytes sheet) → T (in-bytes world) → T (in-bytes out)
     → (if eqb (length world) worldWidth && badSheet sheet then laid out 0 badOf else recordLeft sheet world out) ≡ recordLeft sheet world out)
 unfolding laid laidBy sheetIn line digits
-world-rehearse-printed-bad-in-part p = differ (entry 0) (sym (long-right one one-long _ _) ∙ p [] one narrow tt one-bytes tt ∙ printed-there one one-long [] narrow) tt
+rehearsal-rehearse-printed-bad-in-part p = differ (entry 0) (sym (long-right one one-long _ _) ∙ p [] one narrow tt one-bytes tt ∙ printed-there one one-long [] narrow) tt
 
 -- as much of a record as fits
-pub world-rehearse-printed-cut-short : ¬ ((sheet world out : List ℕ) → T (in-bytes sheet) → T (in-bytes world) → T (in-bytes out)
+pub rehearsal-rehearse-printed-cut-short : ¬ ((sheet world out : List ℕ) → T (in-bytes sheet) → T (in-bytes world) → T (in-bytes out)
     → (if eqb (length world) worldWidth && not (badSheet sheet) then laid out 0 (rehearsed sheet) else recordLeft sheet world out) ≡ recordLeft sheet world out)
-unfolding laid laidBy longest sheetIn stepsIn allZerosIn allZero all formOf numberAt recorded rehearsed
-world-rehearse-printed-cut-short p = differ (entry 0) (sym (long-right one one-long _ _) ∙ p blank one narrow tt one-bytes tt ∙ printed-there one one-long blank narrow) tt
+unfolding laid laidBy longest sheetIn stepsIn allZerosIn recorded rehearsed allZero all formOf numberAt
+rehearsal-rehearse-printed-cut-short p = differ (entry 0) (sym (long-right one one-long _ _) ∙ p blank one narrow tt one-bytes tt ∙ printed-there one one-long blank narrow) tt
 
 -- the record of these steps, with these totals in its last line
 abbrev pub withTotals : ℕ → List Step → ℕ → ℕ → ℕ → ℕ → List ℕ
 withTotals mask ks sent delivered dropped waiting = startOf mask ++ (stepLines 1 (outcomes (start mask) ks) ++ endOf sent delivered dropped waiting)
-
--- the sheet of one step, WRITE 0 77
-abbrev pub written : List ℕ
-written = headed (1 ∷ 5 ∷ 0 ∷ 0 ∷ 0 ∷ 0 ∷ 0 ∷ 0 ∷ 77 ∷ [])
 
 -- lines numbered from 0
 abbrev numbered : ℕ → List Step → List ℕ
@@ -223,20 +307,16 @@ numbered mask ks =
     let os = outcomes (start mask) ks in
     startOf mask ++ (stepLines 0 os ++ endOf (sum sentBy os) (sum deliveredBy os) (sum droppedBy os) (waitingIn (lastWorld (start mask) ks .places)))
 
-pub world-rehearse-printed-numbers-from-0 : ¬ ((sheet world out : List ℕ) → T (in-bytes sheet) → T (in-bytes world) → T (in-bytes out)
-    → (if eqb (length world) worldWidth && not (badSheet sheet) then laid out 0 (numbered (maskIn sheet) (listBy (formIn sheet) sheet))
-    else recordLeft sheet world out)
-    ≡ recordLeft sheet world out)
-unfolding laid laidBy longest sheetIn stepsIn allZerosIn allZero all formOf numberAt recorded
-world-rehearse-printed-numbers-from-0 p =
+pub rehearsal-rehearse-printed-numbers-from-0 : ¬ ((sheet world out : List ℕ) → T (in-bytes sheet) → T (in-bytes world) → T (in-bytes out)
+    → (if eqb (length world) worldWidth && not (badSheet sheet) then laid out 0 (numbered (maskIn sheet) (listBy (formIn sheet) sheet)) else recordLeft sheet world out) ≡ recordLeft sheet world out)
+unfolding laid laidBy longest sheetIn stepsIn allZerosIn recorded numberAt allZero all formOf
+rehearsal-rehearse-printed-numbers-from-0 p =
     differ (entry 8) (sym (long-right one one-long _ _) ∙ p written one wide tt one-bytes tt ∙ printed-there one one-long written wide) tt
 
-pub world-rehearse-printed-invented-totals : ¬ ((sheet world out : List ℕ) → T (in-bytes sheet) → T (in-bytes world) → T (in-bytes out)
-    → (if eqb (length world) worldWidth && not (badSheet sheet) then laid out 0 (withTotals (maskIn sheet) (listBy (formIn sheet) sheet) 0 0 0 0)
-    else recordLeft sheet world out)
-    ≡ recordLeft sheet world out)
-unfolding laid laidBy longest sheetIn stepsIn allZerosIn allZero all formOf numberAt recorded
-world-rehearse-printed-invented-totals p =
+pub rehearsal-rehearse-printed-invented-totals : ¬ ((sheet world out : List ℕ) → T (in-bytes sheet) → T (in-bytes world) → T (in-bytes out)
+    → (if eqb (length world) worldWidth && not (badSheet sheet) then laid out 0 (withTotals (maskIn sheet) (listBy (formIn sheet) sheet) 0 0 0 0) else recordLeft sheet world out) ≡ recordLeft sheet world out)
+unfolding laid laidBy longest sheetIn stepsIn allZerosIn recorded numberAt allZero all formOf
+rehearsal-rehearse-printed-invented-totals p =
     differ (entry 26) (sym (long-right one one-long _ _) ∙ p written one wide tt one-bytes tt ∙ printed-there one one-long written wide) tt
 
 -- ---- engine
@@ -351,13 +431,13 @@ unfolding writing.ruled
 engine-sheet-write-answer-done-always p = differ itself (p page 1 (5 ∷ []) (0 ∷ []) [] tt tt tt tt tt) tt
 
 pub engine-sheet-write-answer-of-the-shortest : ¬ ((buf : List ℕ) (mask : ℕ) (kinds ids values : List ℕ) → T (in-bytes buf) → T (in-u8 mask) → T (in-bytes kinds) → T (in-bytes ids) → T (in-u32s values)
-    → sheets.number (sheets.written sheets.version1 buf mask (listed kinds ids values)) ≡ sheets.number (writing.ruled buf mask kinds ids values))
-unfolding writing.ruled listed sheets.written sheets.sheetBytes sheets.stepsBytes bytesOf
+    → sheets.number (sheets.written buf mask (listed kinds ids values)) ≡ sheets.number (writing.ruled buf mask kinds ids values))
+unfolding writing.ruled listed sheets.written sheets.sheetBytes sheets.stepsBytes
 engine-sheet-write-answer-of-the-shortest p = differ itself (p page 1 (5 ∷ []) (0 ∷ []) [] tt tt tt tt tt) tt
 
 pub engine-sheet-write-left-as-it-was : ¬ ((buf : List ℕ) (mask : ℕ) (kinds ids values : List ℕ) → T (in-bytes buf) → T (in-u8 mask) → T (in-bytes kinds) → T (in-bytes ids) → T (in-u32s values)
     → buf ≡ bufferOf buf (writing.ruled buf mask kinds ids values))
-unfolding writing.ruled listed sheets.written sheets.sheetBytes sheets.stepsBytes bytesOf
+unfolding writing.ruled listed sheets.written sheets.sheetBytes sheets.stepsBytes
 engine-sheet-write-left-as-it-was p = differ (entry 0) (p page 1 [] [] [] tt tt tt tt tt) tt
 
 -- told too short for the length, and a world of no length: BAD WORLD
@@ -373,12 +453,12 @@ engine-sheet-rehearse-answer-before-told p = differ itself (p blank [] page [] t
 
 pub engine-sheet-rehearse-last-run-untold : ¬ ((sheet world out told : List ℕ) → T (in-bytes sheet) → T (in-bytes world) → T (in-bytes out) → T (in-bytes told)
     → worldLeft sheet world out ≡ toldRehearsal sheet world out told .last)
-unfolding toldRehearsal longest line digits sheetIn stepsIn allZerosIn allZero all formOf numberAt lastWorld
+unfolding toldRehearsal longest line digits sheetIn stepsIn allZerosIn lastWorld allZero all formOf numberAt
 engine-sheet-rehearse-last-run-untold p = starts-differ (sym (p blank two wide [] tt two-bytes tt tt) ∙ left-there two two-long blank wide)
 
 pub engine-sheet-rehearse-printed-nothing : ¬ ((sheet world out told : List ℕ) → T (in-bytes sheet) → T (in-bytes world) → T (in-bytes out) → T (in-bytes told)
     → out ≡ toldRehearsal sheet world out told .printed)
-unfolding toldRehearsal laidBy longest sheetIn stepsIn allZerosIn allZero all formOf numberAt recorded
+unfolding toldRehearsal laidBy longest sheetIn stepsIn allZerosIn recorded allZero all formOf numberAt
 engine-sheet-rehearse-printed-nothing p = differ (entry 0) (p blank one wide (replicate 4 7) tt one-bytes tt tt ∙ printed-there one one-long blank wide) tt
 
 pub engine-sheet-rehearse-length-told-by-a-refusal : ¬ ((sheet world out told : List ℕ) → T (in-bytes sheet) → T (in-bytes world) → T (in-bytes out) → T (in-bytes told)
@@ -392,5 +472,5 @@ toldAfter r = if eqb (r .answer) 0 then be32 (r .length) ++ [] else replicate 4 
 
 pub engine-sheet-rehearse-length-not-told : ¬ ((sheet world out told : List ℕ) → T (in-bytes sheet) → T (in-bytes world) → T (in-bytes out) → T (in-bytes told)
     → told ≡ toldRehearsal sheet world out told .told)
-unfolding toldRehearsal answerBy longest sheetIn stepsIn allZerosIn allZero all formOf numberAt recorded rehearsed bytesOf
+unfolding toldRehearsal answerBy longest sheetIn stepsIn allZerosIn recorded rehearsed bytesOf allZero all formOf numberAt
 engine-sheet-rehearse-length-not-told p = differ (entry 0) (p blank one wide (replicate 4 7) tt one-bytes tt tt ∙ ap toldAfter (answered-there one one-long blank wide)) tt

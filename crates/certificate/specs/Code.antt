@@ -14,9 +14,9 @@ use Rattle.sheet.specs.declared.reader.Taken.{Taken}
 use Rattle.sheet.specs.Reading.{checkOf, takenAt}
 use Rattle.sheet.specs.Writing.{ruled, ruledSize, bufferOf, numberOf, sizeOf}
 use Rattle.world.specs.declared.Answer.{Answer}
-use Rattle.world.specs.declared.run.Rehearsed.{Rehearsed}
+use Rattle.rehearsal.specs.declared.Rehearsed.{Rehearsed}
 use Rattle.world.specs.Answer.{lentOf}
-use Rattle.world.specs.Playing.{rehearseAnswer, worldLeft, recordLeft}
+use Rattle.rehearsal.specs.Playing.{rehearseAnswer, worldLeft, recordLeft}
 
 pub record Code : Type 0 where
   -- world::step and world::start: the answer, and the world's buffer afterwards
@@ -30,7 +30,7 @@ pub record Code : Type 0 where
   -- sheet::write: the answer, and the buffer afterwards
   pub write : (buf : List ℕ) (mask : ℕ) (kinds ids values : List ℕ) → Written
   pub write-buf : (buf : List ℕ) (mask : ℕ) (kinds ids values : List ℕ) → List ℕ
-  -- world::run::rehearse: the answer, and both buffers afterwards
+  -- rehearsal::rehearse: the answer, and both buffers afterwards
   pub rehearse : (sheet world out : List ℕ) → Rehearsed
   pub rehearse-world : (sheet world out : List ℕ) → List ℕ
   pub rehearse-out : (sheet world out : List ℕ) → List ℕ

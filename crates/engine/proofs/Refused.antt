@@ -15,7 +15,8 @@ use Rattle.layout.specs.Lent.{Lent, left, lentStart, lentStep}
 use Rattle.rules.specs.Sheets.{Written, wrote, number}
 use Rattle.rules.specs.Sheets as sheets
 use Rattle.sheet.specs.Writing.{bufferOf}
-use Rattle.world.specs.Playing.{Ruling, bad-world, bad-sheet, no-room, runs, decided, answerBy, worldBy, laidBy, rehearseAnswer, worldLeft, recordLeft}
+use Rattle.world.specs.Tracing.{Ruling, bad-world, bad-sheet, no-room, runs, worldBy}
+use Rattle.rehearsal.specs.Playing.{decided, answerBy, laidBy, rehearseAnswer, worldLeft, recordLeft}
 use Rattle.engine.specs.Told.{columnsWide, Stepped, telling, toldStep, lengthWide, Rehearsal, toldRehearsal}
 
 -- where the answer is not 0, the buffer is b

@@ -3,12 +3,9 @@ use mathlib.Core.Path.{_≡_, refl, sym, ap, _∙_}
 use mathlib.Core.Bool.{Bool, true, false}
 use mathlib.Core.List.{List, [], _∷_, _++_}
 use Prim.Native.Nat.{ℕ, _≤_, _<_}
-use native.Mathlib.Nat.{zero-add}
-use native.Mathlib.Omega.{arith}
 use lib.ListN.{length, getD, drop}
 use borrow.Author.Tests.{lt-ltb, le-ltb, eq-eqb, ne-eqb}
-use Rattle.rows.specs.Bytes.{splice, placed, bytesOf, be32, cat}
-use Rattle.rows.proofs.Laws.{placed-fits}
+use Rattle.rows.specs.Bytes.{placed, bytesOf, be32, cat}
 use Rattle.rows.proofs.Numbers.{length-bytesOf}
 use Rattle.rules.specs.Sets.{if_then_else_}
 use Rattle.layout.specs.Lent.{Lent, lentStep}
@@ -18,15 +15,10 @@ use Rattle.sheet.specs.declared.Sheet.{Sheet}
 use Rattle.rules.specs.Runs.{fields}
 use Rattle.world.specs.Answer.{reportOf, lentOf}
 use Rattle.world.specs.declared.Answer.{Answer}
-use Rattle.world.specs.declared.run.Rehearsed.{Rehearsed}
-use Rattle.world.specs.Playing.{rehearseAnswer, worldLeft, recordLeft}
+use Rattle.world.proofs.Tracing.{front}
+use Rattle.rehearsal.specs.declared.Rehearsed.{Rehearsed}
+use Rattle.rehearsal.specs.Playing.{rehearseAnswer, worldLeft, recordLeft}
 use Rattle.engine.specs.Told.{toldOf, toldBytes, Stepped, telling, toldStep, Rehearsal, toldRehearsal}
-
--- ---- at the front of a buffer
-
-front : (n : ℕ) (l b : List ℕ) → length b ≡ n → n ≤ length l → placed l 0 b ≡ b ++ drop n l
-unfolding splice
-front n l b e h = placed-fits l b 0 (omega (arith, e)) ∙ rw (e, zero-add)
 
 told-long : (c : List ℕ) → length (toldBytes c) ≡ 9
 unfolding toldBytes cat bytesOf

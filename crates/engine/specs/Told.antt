@@ -11,7 +11,7 @@ use Rattle.rules.specs.Runs.{fields}
 use Rattle.layout.specs.Lent.{Lent, lentStep}
 use Rattle.rules.specs.Sheets.{badSheet}
 use Rattle.rules.specs.Sheets as sheets
-use Rattle.world.specs.Playing.{rehearseAnswer, worldLeft, recordLeft}
+use Rattle.rehearsal.specs.Playing.{rehearseAnswer, worldLeft, recordLeft}
 
 -- BAD WORLD: "world not good"
 abbrev pub goodNumber : List ℕ → ℕ

@@ -4,7 +4,7 @@ ghost use Rattle.rows.specs.Bytes.{placed, be32};
 ghost use Rattle.layout.specs.Lent.{lentStart};
 ghost use Rattle.rules.specs.Sheets.{number};
 ghost use Rattle.sheet.specs.Writing.{ruled, bufferOf};
-ghost use Rattle.world.specs.Playing.{columnsOf};
+ghost use Rattle.world.specs.Tracing.{columnsOf};
 ghost use Rattle.engine.specs.Told.{goodNumber, sheetNumber, toldBytes, toldStep, toldRehearsal};
 use rules::Step;
 use sheet::Written;

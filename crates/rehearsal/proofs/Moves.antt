@@ -4,9 +4,9 @@ use mathlib.Core.Bool.{Bool, true, false, _&&_, and-eq-true-iff}
 use Prim.Native.Nat.{ℕ, _+_, _-_}
 use lib.Dec.{eqb, leb, ltb}
 use lib.ListN.{length}
-use mir.Val.{boolByte}
 use borrow.Author.Tests.{eqb-true}
 use Rattle.views.proofs.Truth.{cases}
+use Rattle.rules.specs.Sets.{if_then_else_}
 use Rattle.rules.specs.Messages.{Refusal, bad-world, bad-step, empty, dead, not-now, not-yet, worn, no-room, outgoing, refused, does}
 use Rattle.rules.specs.Messages as messages
 use Rattle.rules.specs.State.{Relay, Place, free, waiting, World, placeAt}
@@ -16,8 +16,8 @@ use Rattle.rules.specs.Steps.{Act, is, told as tells, Report, Outcome, refusal,
 use Rattle.rules.specs.Runs.{deliveredBy, droppedBy, answer}
 
 pub record Moves (o : Outcome) (d x : Bool) : Type 0 where
-  pub delivered : deliveredBy o ≡ boolByte (eqb (answer o) 0 && d)
-  pub dropped : droppedBy o ≡ boolByte (eqb (answer o) 0 && x)
+  pub delivered : deliveredBy o ≡ (if eqb (answer o) 0 && d then 1 else 0)
+  pub dropped : droppedBy o ≡ (if eqb (answer o) 0 && x then 1 else 0)
 
 refusal-moves : (x : Refusal) (d y : Bool) → Moves (refusal x) d y
 refusal-moves bad-world d y = record { delivered = refl; dropped = refl }
@@ -29,20 +29,20 @@ refusal-moves not-yet d y = record { delivered = refl; dropped = refl }
 refusal-moves worn d y = record { delivered = refl; dropped = refl }
 refusal-moves no-room d y = record { delivered = refl; dropped = refl }
 
-done-moves : (v : World) (r : Report) (n : ℕ) (d x : Bool) → Moves (done v r n (boolByte d) (boolByte x)) d x
+done-moves : (v : World) (r : Report) (n : ℕ) (d x : Bool) → Moves (done v r n (if d then 1 else 0) (if x then 1 else 0)) d x
 done-moves v r n d x = record { delivered = refl; dropped = refl }
 
 abbrev Quiet : Outcome → Type 0
 Quiet o = Moves o false false
 
-relay-moves : (w : World) (d : Bool) (s : ℕ) (a : messages.Answer Relay) → Moves (relayDoes w (boolByte d) s a) d false
+relay-moves : (w : World) (d : Bool) (s : ℕ) (a : messages.Answer Relay) → Moves (relayDoes w (if d then 1 else 0) s a) d false
 unfolding relayDoes
 relay-moves w d s (refused x) = refusal-moves x d false
 relay-moves w d s (does r ss e) =
     cases (λ o. Moves o d false) (roomy w (outgoing s ss) && (leb (length (r .generators)) 8 && leb (length (r .transfers)) 8))
     (λ _. done-moves _ _ _ d false) (λ _. refusal-moves no-room d false)
 
-desk-moves : (w : World) (d : Bool) (n : ℕ) (a : messages.Answer Desk) → Moves (deskDoes w (boolByte d) n a) d false
+desk-moves : (w : World) (d : Bool) (n : ℕ) (a : messages.Answer Desk) → Moves (deskDoes w (if d then 1 else 0) n a) d false
 unfolding deskDoes
 desk-moves w d n (refused x) = refusal-moves x d false
 desk-moves w d n (does r ss e) = cases (λ o. Moves o d false) (roomy w (outgoing (8 + n) ss)) (λ _. done-moves _ _ _ d false) (λ _. refusal-moves no-room d false)

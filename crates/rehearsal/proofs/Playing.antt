@@ -1,103 +1,122 @@
--- A run, step by step: what the lines, the counts and the world are after each of its steps, and at its end. Assumes nothing.
+-- A record, line by line: what the lines and the counts are after each of a trace's rows, and at the end. Assumes nothing.
 use mathlib.Core.Path.{_≡_, refl, sym, ap, _∙_}
 use mathlib.Core.Bool.{Bool, true, false, _&&_}
 use mathlib.Core.List.{List, [], _∷_, _++_, append-assoc}
-use Prim.Native.Nat.{ℕ, suc, _+_, _*_, _-_, _≤_, _<_}
+use Prim.Native.Nat.{ℕ, suc, _+_, _*_, _≤_, _<_}
 use native.Mathlib.Numerals.{add-one}
 use native.Mathlib.Omega.{arith}
 use lib.Dec.{eqb, ltb}
-use lib.ListN.{length, getD, drop}
+use lib.ListN.{length, getD, drop, length-append}
 use mir.Val.{boolByte}
-use borrow.Author.Tests.{eq-eqb, ne-eqb, lt-leb, lt-ltb, le-ltb}
+use borrow.Author.Tests.{eq-eqb, lt-ltb, le-ltb}
+use Rattle.rows.specs.Bytes.{u16At, u32At}
+use Rattle.rows.proofs.Laws.{Holds, holds-left, holds-right}
 use Rattle.rules.specs.Sets.{if_then_else_}
 use Rattle.views.proofs.Truth.{cases}
 use Rattle.rules.specs.State.{World, start}
 use Rattle.rules.specs.declared.Step.{Step}
 use Rattle.rules.specs.Sending.{waitingIn}
-use Rattle.rules.specs.Steps.{Outcome, refusal, done, after, report, stepped}
+use Rattle.rules.specs.Steps.{Outcome, after, stepped}
 use Rattle.rules.specs.WellFormed.{wellFormed}
-use Rattle.layout.specs.Image.{image, worldAt, goodBytes}
-use Rattle.layout.specs.Lent.{Lent, left, lentStep, lentStart}
-use Rattle.rules.specs.Sheets.{Sheet, bad, sheet, sheetIn, badSheet, stepsIn, stepsOf, formIn}
-use Rattle.rules.specs.Runs.{outcomes, lastWorld, sum, deliveredBy, droppedBy, answer, fields, digits, line, stepLine, stepLines, longest, printed, startOf, endOf, badOf, rehearsal, rehearsed}
-use Rattle.rules.proofs.Counts.{places-all, run-few, sent-is-sum}
-use Rattle.rules.proofs.Starts.{start-good}
+use Rattle.rules.specs.Sheets.{Sheet, bad, sheet, sheetIn, badSheet}
+use Rattle.rules.specs.Runs.{outcomes, lastWorld, sum, deliveredBy, droppedBy, answer, digits, line, stepLine, stepLines, longest, printed, startOf, endOf, badOf}
+use Rattle.rules.specs.Runs.{rehearsal, rehearsed}
+use Rattle.rules.proofs.Counts.{run-few, sent-is-sum}
 use Rattle.rules.proofs.Kept.{step-keeps, always-good}
 use Rattle.rules.proofs.Longest.{longest-is, printed-longest}
-use Rattle.layout.proofs.World.{world-fits, world-back, image-good, good-formed, good-image}
+use Rattle.layout.specs.Image.{image}
 use Rattle.sheet.specs.declared.Sheet as checked
-use Rattle.sheet.specs.Reading.{checkOf, readOf, stepsFrom}
-use Rattle.sheet.proofs.Walk.{check-reads, accepted, count, sound, front}
-use Rattle.record.specs.Lines.{laid, past, far, stepOf}
+use Rattle.sheet.specs.Reading.{checkOf, stepsFrom}
+use Rattle.sheet.proofs.Walk.{accepted, count, sound}
+use Rattle.record.specs.Lines.{laid, past, far}
 use Rattle.record.proofs.Laying.{laid-whole, printed-first, printed-then, printed-as, Printing, printing-none, printing-more, printing-all}
-use Rattle.record.proofs.Whole.{printed-is, step-line-is}
-use Rattle.world.specs.declared.Answer.{Answer}
-use Rattle.world.specs.declared.run.Columns.{Columns}
-use Rattle.world.specs.declared.run.Tally.{Tally}
-use Rattle.world.specs.declared.run.Rehearsed.{Rehearsed}
-use Rattle.world.specs.Answer.{reportOf, lentOf}
-use Rattle.world.specs.Commits.{freeRows}
-use Rattle.world.specs.Playing.{columnsOf, Stepped, Ran, Ruling, bad-world, bad-sheet, no-room, runs, roomFor, decided, recordBy, answerBy, laidBy, worldBy, rehearseAnswer, worldLeft, recordLeft}
-use Rattle.world.proofs.Places.{free-rows}
-use Rattle.world.proofs.Moves.{step-moves}
+use Rattle.record.proofs.Whole.{printed-is}
+use Rattle.world.specs.Tracing.{columnsAt, traceRow, traceRows, Ruling, bad-world, bad-sheet, no-room, runs, roomFor, ruling, worldBy, tracesWide}
+use Rattle.world.specs.Tracing.{traced, traceWorld, traceLeft}
+use Rattle.world.proofs.Tracing.{row-long, rows-long, row-back, next-rows, shown-few, some, found-facts, few-found, steps-long, ruling-misfit, ruling-bad, ruling-full, ruling-runs}
+use Rattle.rehearsal.specs.declared.Tally.{Tally}
+use Rattle.rehearsal.specs.declared.Rehearsed.{Rehearsed}
+use Rattle.rehearsal.specs.Playing.{Lined, Begins, AllLined, decided, recordBy, answerBy, laidBy, rehearseAnswer, worldLeft, recordLeft}
+use Rattle.rehearsal.proofs.Moves.{step-moves}
 
--- ---- one step's answer and buffer
+-- ---- one row
 
-pub record Answered (a : Answer) (o : Outcome) (W : World) (w : List ℕ) : Type 0 where
-  pub number : a .number ≡ answer o
-  pub report : reportOf (a .report) ≡ report o
-  pub world : w ≡ image (after W o)
+-- the step of this number, with the outcome o: l is the record before it, written from `at` on, and out after it
+record StepLined (o : Outcome) (number at : ℕ) (l out : List ℕ) (r : Tally) : Type 0 where
+  line : (r .at ≡ past at (stepLine number o)) × (out ≡ laid l at (stepLine number o))
+  delivered : r .delivered ≡ deliveredBy o
+  dropped : r .dropped ≡ droppedBy o
 
-module _ (b : List ℕ) (good : goodBytes b ≡ true) (a : Answer) (w : List ℕ) where
-  outcome-answered : (o : Outcome) → lentOf a w ≡ left b o → Answered a o (worldAt b) w
-  unfolding lentOf
-  outcome-answered (refusal x) e = record { number = ap (λ (l : Lent). l .answer) e; report = ap (λ (l : Lent). l .report) e; world = ap (λ (l : Lent). l .buffer) e ∙ sym (good-image b good) }
-  outcome-answered (done v r s d x) e = record { number = ap (λ (l : Lent). l .answer) e; report = ap (λ (l : Lent). l .report) e; world = ap (λ (l : Lent). l .buffer) e }
+-- what a step moves is no more than one message
+at-most-one : (b : Bool) → (if b then 1 else 0) ≤ 1
+at-most-one true = omega arith
+at-most-one false = omega arith
 
-  pub step-answered : (k : Step) → lentOf a w ≡ lentStep b k → Answered a (stepped (worldAt b) k) (worldAt b) w
-  unfolding lentStep
-  step-answered k e = outcome-answered (stepped (worldAt b) k) (rw good at e)
+pub little : {rows : List ℕ} {row kind number at : ℕ} {l out : List ℕ} {r : Tally} → Lined rows row kind number at l out r
+    → (r .delivered ≤ 1) × (r .dropped ≤ 1)
+little {rows} {row} {kind} t =
+    let done : Bool = eqb (getD rows (row + 0) 0) 0 in
+    (rw (t .delivered) (at-most-one (done && eqb kind 6)), rw (t .dropped) (at-most-one (done && eqb kind 7)))
 
-pub start-answered : (b : List ℕ) (mask : ℕ) (a : Answer) (w : List ℕ) → length b ≡ 65536 → (mask ≡ 0 → ⊥) → mask < 256 → lentOf a w ≡ lentStart b mask → w ≡ image (start mask)
-unfolding lentStart lentOf
-start-answered b mask a w long some small e = ap (λ (l : Lent). l .buffer) (rw (long, ne-eqb mask 0 some, lt-leb 256 mask small) at e)
+-- a flag, counted
+flag-is : (b : Bool) → boolByte b ≡ (if b then 1 else 0)
+flag-is true = refl
+flag-is false = refl
 
-pub turned : (W : World) (k : Step) (number at : ℕ) (l : List ℕ) (a : Answer) (w out : List ℕ) (c : Columns) (p : ℕ)
-    → Answered a (stepped W k) W w → columnsOf c ≡ fields (reportOf (a .report) .event) (reportOf (a .report) .who)
-    → (p ≡ past at (stepOf number (a .number) (c .event) (c .who) (c .count) (c .desk) (c .last))) × (out ≡ laid l at (stepOf number (a .number) (c .event) (c .who) (c .count) (c .desk) (c .last)))
-    → Stepped W k number at l w out (record { at = p; delivered = boolByte (eqb (a .number) 0 && eqb (k .kind) 6); dropped = boolByte (eqb (a .number) 0 && eqb (k .kind) 7) })
-unfolding columnsOf
-turned W k number at l a w out c p h e put =
-    let o : Outcome = stepped W k in
+-- a line, of the columns that were read
+pub columns-read : (rows : List ℕ) (row a e w c d x : ℕ) → a ≡ getD rows (row + 0) 0 → e ≡ getD rows (row + 1) 0 → w ≡ getD rows (row + 2) 0
+    → c ≡ u16At rows (row + 3) → d ≡ getD rows (row + 5) 0 → x ≡ u32At rows (row + 6) → a ∷ e ∷ w ∷ c ∷ d ∷ x ∷ [] ≡ columnsAt rows row
+unfolding columnsAt
+columns-read rows row a e w c d x f g h i j k = rw (f, g, h, i, j, k)
+
+pub lined : (rows : List ℕ) (row kind number at : ℕ) (l out : List ℕ) (p a : ℕ) (xs : List ℕ) → a ≡ getD rows (row + 0) 0 → xs ≡ columnsAt rows row
+    → (p ≡ past at (line (number ∷ xs))) × (out ≡ laid l at (line (number ∷ xs)))
+    → Lined rows row kind number at l out
+    (record { at = p; delivered = boolByte (eqb a 0 && eqb kind 6); dropped = boolByte (eqb a 0 && eqb kind 7) })
+lined rows row kind number at l out p a xs f e put =
+    let done : Bool = eqb (getD rows (row + 0) 0) 0 in
+    record { line = rw e at put; delivered = rw f (flag-is (done && eqb kind 6)); dropped = rw f (flag-is (done && eqb kind 7)) }
+
+first-column : (rows : List ℕ) (row : ℕ) → getD (columnsAt rows row) 0 0 ≡ getD rows (row + 0) 0
+unfolding columnsAt
+first-column rows row = refl
+
+step-lined : (rows : List ℕ) (row : ℕ) (W : World) (k : Step) (number at : ℕ) (l out : List ℕ) (r : Tally) → wellFormed W ≡ true
+    → Holds rows row (traceRow (stepped W k)) → Lined rows row (k .kind) number at l out r → StepLined (stepped W k) number at l out r
+step-lined rows row W k number at l out r formed h t =
     let m = step-moves W k in
-    let f : fields (report o .event) (report o .who) ≡ c .event ∷ c .who ∷ c .count ∷ c .desk ∷ c .last ∷ [] = rw (h .report) at (sym e) in
-    let same = step-line-is number o (c .event) (c .who) (c .count) (c .desk) (c .last) f in
+    let back = row-back rows row W k formed h in
+    let first : getD rows (row + 0) 0 ≡ answer (stepped W k) = sym (first-column rows row) ∙ ap (λ (x : List ℕ). getD x 0 0) back in
     record {
-      world = h .world;
-      line = rw same at (rw (h .number) at put);
-      delivered = rw (h .number) (sym (m .delivered));
-      dropped = rw (h .number) (sym (m .dropped));
+      line = rw back at (t .line);
+      delivered = rw first at (t .delivered) ∙ sym (m .delivered);
+      dropped = rw first at (t .dropped) ∙ sym (m .dropped);
     }
 
--- ---- the steps of a sheet b that is not bad
+-- ---- before the line of this number, of the steps ks of W: rest are those whose lines are still to be laid, and here is the world before them; their rows stand
+-- in rows from row on; out is the record's buffer, p the position past the lines, and d and x the counts
 
-module _ (b : List ℕ) (good : badSheet b ≡ false) where
-  pub shown-few : length (stepsFrom b 6) ≤ 8000
-  unfolding stepsFrom
-  shown-few = omega (arith, sound b good .few, count b (getD b 5 0) (stepsFrom b 6) (record { good = good; masked = refl; steps = refl }))
-
--- ---- before the step of this number, of the steps ks of W: rest are those still to be taken; w and out are the buffers, p the position past the lines, and d and x the counts
-
-pub record Running (W : World) (ks : List Step) (l : List ℕ) (o : ℕ) (w out : List ℕ) (p d x number : ℕ) (rest : List Step) : Type 0 where
-  pub good : goodBytes w ≡ true
+pub record Lining (W : World) (ks : List Step) (rows l : List ℕ) (o : ℕ) (out : List ℕ) (row p d x number : ℕ) (rest : List Step) : Type 0 where
+  pub here : World
+  pub formed : wellFormed here ≡ true
+  pub held : Holds rows row (traceRows (outcomes here rest))
   pub taken : number + length rest ≡ 1 + length ks
-  pub lines : Printing (stepLines 1 (outcomes W ks)) l o out p (stepLines number (outcomes (worldAt w) rest))
-  pub last : lastWorld (worldAt w) rest ≡ lastWorld W ks
-  pub delivered : d + sum deliveredBy (outcomes (worldAt w) rest) ≡ sum deliveredBy (outcomes W ks)
-  pub dropped : x + sum droppedBy (outcomes (worldAt w) rest) ≡ sum droppedBy (outcomes W ks)
+  pub lines : Printing (stepLines 1 (outcomes W ks)) l o out p (stepLines number (outcomes here rest))
+  pub delivered : d + sum deliveredBy (outcomes here rest) ≡ sum deliveredBy (outcomes W ks)
+  pub dropped : x + sum droppedBy (outcomes here rest) ≡ sum droppedBy (outcomes W ks)
 
-pub running-none : {ks : List Step} {l : List ℕ} {o : ℕ} {w : List ℕ} → goodBytes w ≡ true → o ≤ far → length l ≤ far → Running (worldAt w) ks l o w l o 0 0 1 ks
-running-none good near small = record { good = good; taken = refl; lines = printing-none near small; last = refl; delivered = omega arith; dropped = omega arith }
+pub lining-none : {W : World} {ks : List Step} {rows l : List ℕ} {o : ℕ} → wellFormed W ≡ true → Begins rows (traceRows (outcomes W ks)) → o ≤ far → length l ≤ far
+    → Lining W ks rows l o l 0 o 0 0 1 ks
+lining-none {W} formed h near small =
+    record {
+      here = W;
+      formed = formed;
+      held = record { pre = []; post = h .rest; long = refl; whole = h .whole };
+      taken = refl;
+      lines = printing-none near small;
+      delivered = omega arith;
+      dropped = omega arith;
+    }
 
 -- one more step
 module _ (W : World) (k : Step) (ks : List Step) where
@@ -105,54 +124,53 @@ module _ (W : World) (k : Step) (ks : List Step) where
   unfolding stepLines outcomes
   next-lines number = refl
 
-  next-last : lastWorld W (k ∷ ks) ≡ lastWorld (after W (stepped W k)) ks
-  unfolding lastWorld
-  next-last = refl
-
   next-sum : (f : Outcome → ℕ) → sum f (outcomes W (k ∷ ks)) ≡ f (stepped W k) + sum f (outcomes (after W (stepped W k)) ks)
   unfolding sum outcomes
   next-sum f = refl
 
-module _ {W : World} {ks : List Step} {l : List ℕ} {o : ℕ} {w out : List ℕ} {p d x number : ℕ} {rest : List Step} (h : Running W ks l o w out p d x number rest) where
+holds-long : (l b : List ℕ) (o : ℕ) → Holds l o b → o + length b ≤ length l
+holds-long l b o h = rw (h .whole) (simp length-append (omega (arith, h .long)))
+
+module _ {W : World} {ks : List Step} {rows l : List ℕ} {o : ℕ} {out : List ℕ} {row p d x number : ℕ} {rest : List Step}
+    (h : Lining W ks rows l o out row p d x number rest) where
   pub few : (d ≤ length ks) × (x ≤ length ks)
   few = (omega (arith, h .delivered, run-few W ks), omega (arith, h .dropped, run-few W ks))
 
-  pub running-more : (k : Step) (later : List Step) (w' out' : List ℕ) (r : Tally) → rest ≡ k ∷ later → Stepped (worldAt w) k number p out w' out' r
-      → Running W ks l o w' out' (r .at) (d + r .delivered) (x + r .dropped) (number + 1) later
-  running-more k later w' out' r e t =
-      let here : World = worldAt w in
-      let next : World = after here (stepped here k) in
-      let formed : wellFormed next ≡ true = step-keeps here k (good-formed w (h .good)) in
-      let now : worldAt w' ≡ next = ap worldAt (t .world) ∙ world-back next formed in
-      rw (add-one number)
-      (record {
-        good = rw (t .world) (image-good next formed);
-        taken = omega (arith, h .taken, ap length e);
-        lines = rw now
-            (printing-more (stepLine number (stepped here k)) out' (stepLines (suc number) (outcomes next later)) (h .lines)
-            (ap (λ (a : List Step). stepLines number (outcomes here a)) e ∙ next-lines here k later number) (t .line));
-        last = rw now (sym (next-last here k later) ∙ ap (lastWorld here) (sym e) ∙ h .last);
-        delivered = rw now (omega (arith, t .delivered, next-sum here k later deliveredBy, ap (λ (a : List Step). sum deliveredBy (outcomes here a)) e, h .delivered));
-        dropped = rw now (omega (arith, t .dropped, next-sum here k later droppedBy, ap (λ (a : List Step). sum droppedBy (outcomes here a)) e, h .dropped));
-      })
+  module _ (k : Step) (later : List Step) (e : rest ≡ k ∷ later) where
+    pub lining-room : row + 10 ≤ length rows
+    lining-room = omega (arith, holds-long rows (traceRows (outcomes (h .here) rest)) row (h .held), rows-long (h .here) rest, ap length e)
 
-  pub running-all : rest ≡ [] → Ran W ks o l w out (record { at = p; delivered = d; dropped = x })
-  unfolding stepLines outcomes lastWorld sum
-  running-all none =
-      let end = ap (λ (a : List Step). lastWorld (worldAt w) a) none in
+    pub lining-more : (out' : List ℕ) (r : Tally) → Lined rows row (k .kind) number p out out' r
+        → Lining W ks rows l o out' (row + 10) (r .at) (d + r .delivered) (x + r .dropped) (number + 1) later
+    lining-more out' r t =
+        let here : World = h .here in
+        let now : Outcome = stepped here k in
+        let next : World = after here now in
+        let held : Holds rows row (traceRow now ++ traceRows (outcomes next later)) =
+        rw (ap (λ (a : List Step). traceRows (outcomes here a)) e ∙ next-rows here k later) at (h .held) in
+        let s : StepLined now number p out out' r = step-lined rows row here k number p out out' r (h .formed) (holds-left rows (traceRow now) _ row held) t in
+        rw (add-one number)
+        (record {
+          here = next;
+          formed = step-keeps here k (h .formed);
+          held = holds-right rows (traceRow now) (traceRows (outcomes next later)) row 10 (row-long now) held;
+          taken = omega (arith, h .taken, ap length e);
+          lines = printing-more (stepLine number now) out' (stepLines (suc number) (outcomes next later)) (h .lines)
+              (ap (λ (a : List Step). stepLines number (outcomes here a)) e ∙ next-lines here k later number) (s .line);
+          delivered = omega (arith, s .delivered, next-sum here k later deliveredBy, ap (λ (a : List Step). sum deliveredBy (outcomes here a)) e, h .delivered);
+          dropped = omega (arith, s .dropped, next-sum here k later droppedBy, ap (λ (a : List Step). sum droppedBy (outcomes here a)) e, h .dropped);
+        })
+
+  pub lining-all : rest ≡ [] → AllLined W ks o l out (record { at = p; delivered = d; dropped = x })
+  unfolding stepLines outcomes sum
+  lining-all none =
       record {
-        world = sym (good-image w (h .good)) ∙ ap image (sym end ∙ h .last);
-        lines = printing-all (h .lines) (ap (λ (a : List Step). stepLines number (outcomes (worldAt w) a)) none);
-        delivered = omega (arith, h .delivered, ap (λ (a : List Step). sum deliveredBy (outcomes (worldAt w) a)) none);
-        dropped = omega (arith, h .dropped, ap (λ (a : List Step). sum droppedBy (outcomes (worldAt w) a)) none);
+        lines = printing-all (h .lines) (ap (λ (a : List Step). stepLines number (outcomes (h .here) a)) none);
+        delivered = omega (arith, h .delivered, ap (λ (a : List Step). sum deliveredBy (outcomes (h .here) a)) none);
+        dropped = omega (arith, h .dropped, ap (λ (a : List Step). sum droppedBy (outcomes (h .here) a)) none);
       }
 
 -- ---- the end
-
-pub waiting-rows : (W : World) (w : List ℕ) → wellFormed W ≡ true → w ≡ image W → 256 - freeRows w 256 ≡ waitingIn (W .places)
-waiting-rows W w formed e =
-    let many = world-fits W formed .shaped .places in
-    omega (arith, ap (λ (l : List ℕ). freeRows l 256) e, free-rows W many, places-all (W .places), many)
 
 -- the whole record, of its start, its lines and its end
 module _ (mask : ℕ) (ks : List Step) where
@@ -162,74 +180,50 @@ module _ (mask : ℕ) (ks : List Step) where
   abbrev waits : ℕ
   waits = waitingIn (lastWorld (start mask) ks .places)
 
-  pub whole-is : startOf mask ++ (stepLines 1 os ++ endOf (sum deliveredBy os + sum droppedBy os + waits) (sum deliveredBy os) (sum droppedBy os) waits) ≡ printed mask ks
+  pub whole-is : startOf mask ++ (stepLines 1 os ++ endOf (sum deliveredBy os + sum droppedBy os + waits) (sum deliveredBy os) (sum droppedBy os) waits)
+      ≡ printed mask ks
   whole-is = rw (← sent-is-sum mask ks) (printed-is mask ks)
 
--- ---- an accepted sheet, started, run and ended
+-- ---- an accepted sheet: its trace, and its record
 
-module _ (b : List ℕ) (mask : ℕ) (good : badSheet b ≡ false) (m : mask ≡ getD b 5 0) (small : mask < 256) where
-  some : mask ≡ 0 → ⊥
-  some z = sound b good .some (sym m ∙ z)
-
-  begins : wellFormed (start mask) ≡ true
-  begins = start-good mask (omega (arith, some)) small
-
-  pub started : (w v : List ℕ) (a : Answer) → length w ≡ 65536 → lentOf a v ≡ lentStart w mask → (goodBytes v ≡ true) × (v ≡ image (start mask))
-  started w v a long e =
-      let is : v ≡ image (start mask) = start-answered w mask a v long some small e in
-      (rw is (image-good (start mask) begins), is)
-
-  pub played : (l v w out₁ out₂ out₃ : List ℕ) (at r : ℕ) (t : Tally) → length l ≤ far → v ≡ image (start mask)
-      → (at ≡ past 0 (startOf mask)) × (out₁ ≡ laid l 0 (startOf mask))
-      → Ran (worldAt v) (stepsFrom b 6) at out₁ w out₂ t
-      → ((W : World) → wellFormed W ≡ true → w ≡ image W
-      → r ≡ past (t .at) (endOf (t .delivered + t .dropped + waitingIn (W .places)) (t .delivered) (t .dropped) (waitingIn (W .places))))
-      → ((W : World) → wellFormed W ≡ true → w ≡ image W
-      → out₃ ≡ laid out₂ (t .at) (endOf (t .delivered + t .dropped + waitingIn (W .places)) (t .delivered) (t .dropped) (waitingIn (W .places))))
-      → (r ≡ past 0 (printed mask (stepsFrom b 6)))
-      × ((out₃ ≡ laid l 0 (printed mask (stepsFrom b 6))) × (w ≡ image (lastWorld (start mask) (stepsFrom b 6))))
-  played l v w out₁ out₂ out₃ at r t near is begun h ends ended =
-      let ks : List Step = stepsFrom b 6 in
-      let os : List Outcome = outcomes (start mask) ks in
-      let now : worldAt v ≡ start mask = ap worldAt is ∙ world-back (start mask) begins in
-      let ran : Ran (start mask) ks at out₁ w out₂ t = rw now at h in
-      let last : World = lastWorld (start mask) ks in
-      let formed : wellFormed last ≡ true = always-good mask (omega (arith, some)) small ks in
-      let end : List ℕ = endOf (t .delivered + t .dropped + waitingIn (last .places)) (t .delivered) (t .dropped) (waitingIn (last .places)) in
-      let all = printed-then end out₃ (printed-then (stepLines 1 os) out₂ (printed-first (startOf mask) begun) near (ran .lines)) near (ends last formed (ran .world), ended last formed (ran .world)) in
-      let same : end ≡ endOf (sum deliveredBy os + sum droppedBy os + waitingIn (last .places)) (sum deliveredBy os) (sum droppedBy os) (waitingIn (last .places)) = rw (ran .delivered, ran .dropped) in
-      let whole : (startOf mask ++ stepLines 1 os) ++ end ≡ printed mask ks = append-assoc (startOf mask) (stepLines 1 os) end ∙ ap (λ (a : List ℕ). startOf mask ++ (stepLines 1 os ++ a)) same ∙ whole-is mask ks in
-      let p = printed-as (printed mask ks) whole all in
-      (p .0, (p .1, ran .world))
-
--- ---- what the check of a sheet says
-
-module _ (b : List ℕ) (s : checked.Sheet) (e : s ≡ checkOf b) where
-  found-bad : s .bad ≡ true → sheetIn b ≡ bad
-  unfolding readOf
-  found-bad t = sym (rw t at (ap (λ (x : checked.Sheet). readOf x b) e ∙ check-reads b))
-
-  found-good : s .bad ≡ false → sheetIn b ≡ sheet (s .mask) (stepsFrom b 6)
-  unfolding readOf
-  found-good t =
-      let ks : List Step = stepsIn (formIn b) (s .steps) (drop 6 b) in
-      let read : sheetIn b ≡ sheet (s .mask) ks = sym (rw t at (ap (λ (x : checked.Sheet). readOf x b) e ∙ check-reads b)) in
-      read ∙ ap (sheet (s .mask)) (sym (front b (s .mask) ks (accepted b (s .mask) ks read)))
-
-  pub found-facts : s .bad ≡ false → (badSheet b ≡ false) × (s .mask ≡ getD b 5 0)
-  found-facts t =
-      let a = accepted b (s .mask) (stepsFrom b 6) (found-good t) in
-      (a .good, sym (a .masked))
-
-  steps-long : s .bad ≡ false → length (stepsFrom b 6) ≡ s .steps
+module _ (b : List ℕ) (mask : ℕ) (good : badSheet b ≡ false) (m : mask ≡ getD b 5 0) where
+  not-bad : checkOf b .bad ≡ false
   unfolding checkOf
-  steps-long t =
-      let a = accepted b (s .mask) (stepsFrom b 6) (found-good t) in
-      let steps : s .steps ≡ stepsOf b = rw (a .good) at (ap (λ (x : checked.Sheet). x .steps) e) in
-      sym (count b (s .mask) (stepsFrom b 6) a) ∙ sym steps
+  not-bad = rw good
 
-  pub few-found : s .bad ≡ false → s .steps ≤ 8000
-  few-found t = omega (arith, steps-long t, shown-few b (found-facts t .0))
+  pub trace-runs : (w rows w' rows' : List ℕ) → length w ≡ 65536 → 80000 ≤ length rows → (w' ≡ traceWorld b w rows) × (rows' ≡ traceLeft b w rows)
+      → (w' ≡ image (lastWorld (start mask) (stepsFrom b 6))) × Begins rows' (traceRows (outcomes (start mask) (stepsFrom b 6)))
+  unfolding traceWorld traceLeft traced
+  trace-runs w rows w' rows' long wide h =
+      let s : checked.Sheet = checkOf b in
+      let same : s .mask ≡ mask = found-facts b s refl not-bad .1 ∙ sym m in
+      let room : tracesWide (s .steps) ≤ length rows = omega (arith, few-found b s refl not-bad, wide) in
+      let is : ruling tracesWide b w rows ≡ runs mask (stepsFrom b 6) =
+      ruling-runs tracesWide b w rows long s refl not-bad room ∙ ap (λ (n : ℕ). runs n (stepsFrom b 6)) same in
+      (rw is at (h .0), record { rest = _; whole = rw is at (h .1) })
+
+  module _ (small : mask < 256) where
+    pub played : (l w out₁ out₂ out₃ : List ℕ) (at r : ℕ) (t : Tally) → length l ≤ far → w ≡ image (lastWorld (start mask) (stepsFrom b 6))
+        → (at ≡ past 0 (startOf mask)) × (out₁ ≡ laid l 0 (startOf mask))
+        → AllLined (start mask) (stepsFrom b 6) at out₁ out₂ t
+        → ((W : World) → wellFormed W ≡ true → w ≡ image W
+        → r ≡ past (t .at) (endOf (t .delivered + t .dropped + waitingIn (W .places)) (t .delivered) (t .dropped) (waitingIn (W .places))))
+        → ((W : World) → wellFormed W ≡ true → w ≡ image W
+        → out₃ ≡ laid out₂ (t .at) (endOf (t .delivered + t .dropped + waitingIn (W .places)) (t .delivered) (t .dropped) (waitingIn (W .places))))
+        → (r ≡ past 0 (printed mask (stepsFrom b 6))) × (out₃ ≡ laid l 0 (printed mask (stepsFrom b 6)))
+    played l w out₁ out₂ out₃ at r t near is begun ran ends ended =
+        let ks : List Step = stepsFrom b 6 in
+        let os : List Outcome = outcomes (start mask) ks in
+        let last : World = lastWorld (start mask) ks in
+        let formed : wellFormed last ≡ true = always-good mask (omega (arith, some b mask good m small)) small ks in
+        let end : List ℕ = endOf (t .delivered + t .dropped + waitingIn (last .places)) (t .delivered) (t .dropped) (waitingIn (last .places)) in
+        let all = printed-then end out₃ (printed-then (stepLines 1 os) out₂ (printed-first (startOf mask) begun) near (ran .lines)) near
+        (ends last formed is, ended last formed is) in
+        let same : end ≡ endOf (sum deliveredBy os + sum droppedBy os + waitingIn (last .places)) (sum deliveredBy os) (sum droppedBy os) (waitingIn (last .places)) =
+        rw (ran .delivered, ran .dropped) in
+        let whole : (startOf mask ++ stepLines 1 os) ++ end ≡ printed mask ks =
+        append-assoc (startOf mask) (stepLines 1 os) end ∙ ap (λ (a : List ℕ). startOf mask ++ (stepLines 1 os ++ a)) same ∙ whole-is mask ks in
+        printed-as (printed mask ks) whole all
 
 -- ---- what is answered and left
 
@@ -256,40 +250,33 @@ module _ (b w out : List ℕ) where
   Left r w' out' = (r ≡ rehearseAnswer b w out) × ((w' ≡ worldLeft b w out) × (out' ≡ recordLeft b w out))
 
   -- what comes of the ruling comes of the call
-  left-by : (x : Ruling) → decided b w out ≡ x → (r : Rehearsed) (w' out' : List ℕ) → r ≡ answerBy out x → w' ≡ worldBy w x → out' ≡ laidBy out x
+  left-by : (x : Ruling) → ruling longest b w out ≡ x → (r : Rehearsed) (w' out' : List ℕ) → r ≡ answerBy out x → w' ≡ worldBy w x → out' ≡ laidBy out x
       → Left r w' out'
-  unfolding rehearseAnswer worldLeft recordLeft
+  unfolding rehearseAnswer worldLeft recordLeft decided
   left-by x e r w' out' f g h = (rw e f, (rw e g, rw e h))
 
   run-answered : (mask : ℕ) (ks : List Step) (n : ℕ) → n ≡ length (printed mask ks) → record { answer = 0; length = n } ≡ answerBy out (runs mask ks)
   unfolding answerBy
   run-answered mask ks n e = rw e
 
+  run-laid : (mask : ℕ) (ks : List Step) (out' : List ℕ) → out' ≡ printed mask ks ++ drop (length (printed mask ks)) out → out' ≡ laidBy out (runs mask ks)
+  unfolding laidBy
+  run-laid mask ks out' e = e
+
   pub misfit : (length w ≡ 65536 → ⊥) → Left (record { answer = 1; length = 0 }) w out
-  misfit h = left-by bad-world (unfold decided in rw (ne-eqb (length w) 65536 h)) _ _ _ (unfold answerBy in refl) refl (unfold laidBy in refl)
+  misfit h = left-by bad-world (ruling-misfit longest b w out h) _ _ _ (unfold answerBy in refl) refl (unfold laidBy in refl)
 
   module _ (long : length w ≡ 65536) (s : checked.Sheet) (e : s ≡ checkOf b) where
-    decided-by : (x : Sheet) → sheetIn b ≡ x → decided b w out ≡ roomFor (length out) x
-    unfolding decided
-    decided-by x f = rw (eq-eqb (length w) 65536 long, f)
-
     pub left-bad : s .bad ≡ true → (r : Rehearsed) (out' : List ℕ) → (r ≡ answerBy out bad-sheet) × (out' ≡ laidBy out bad-sheet) → Left r w out'
-    left-bad t r out' h = left-by bad-sheet (decided-by bad (found-bad b s e t)) r w out' (h .0) refl (h .1)
+    left-bad t r out' h = left-by bad-sheet (ruling-bad longest b w out long s e t) r w out' (h .0) refl (h .1)
 
     module _ (t : s .bad ≡ false) where
       abbrev ks : List Step
       ks = stepsFrom b 6
 
-      decided-good : decided b w out ≡ (if ltb (length out) (longest (length ks)) then no-room else runs (s .mask) ks)
-      decided-good = decided-by (sheet (s .mask) ks) (found-good b s e t)
-
-      room-is : longest (length ks) ≡ 33 + 30 * s .steps
-      room-is = longest-is (length ks) ∙ ap (λ (n : ℕ). 33 + 30 * n) (steps-long b s e t)
-
       pub left-full : length out < 33 + 30 * s .steps → Left (record { answer = 8; length = 0 }) w out
       left-full l =
-          let short = lt-ltb (length out) (longest (length ks)) (rw room-is l) in
-          left-by no-room (decided-good ∙ ap (λ (x : Bool). if x then no-room else runs (s .mask) ks) short) _ _ _
+          left-by no-room (ruling-full longest b w out long s e t (rw (longest-is (s .steps)) l)) _ _ _
           (unfold answerBy in refl) refl (unfold laidBy in refl)
 
       pub left-good : 33 + 30 * s .steps ≤ length out → s .mask < 256 → (w' out' : List ℕ) (n : ℕ)
@@ -299,19 +286,18 @@ module _ (b w out : List ℕ) where
           let f = found-facts b s e t in
           let most = shown-few b (f .0) in
           let fits = printed-longest (s .mask) (omega (arith, some b (s .mask) (f .0) (f .1) small)) small ks most in
-          let roomy = le-ltb (length out) (longest (length ks)) (rw room-is l) in
           let exact : n ≡ length (printed (s .mask) ks) = omega (arith, put .0, fits, longest-is (length ks), most) in
-          let front = laid-whole out (printed (s .mask) ks) (omega (arith, fits, room-is, l)) in
-          left-by (runs (s .mask) ks) (decided-good ∙ ap (λ (x : Bool). if x then no-room else runs (s .mask) ks) roomy) _ w' out'
-          (run-answered (s .mask) ks n exact) (put .1 .1) (unfold laidBy in (put .1 .0 ∙ front))
+          let front = laid-whole out (printed (s .mask) ks) (omega (arith, fits, longest-is (length ks), steps-long b s e t, l)) in
+          left-by (runs (s .mask) ks) (ruling-runs longest b w out long s e t (rw (longest-is (s .steps)) l)) _ w' out'
+          (run-answered (s .mask) ks n exact) (put .1 .1) (run-laid (s .mask) ks out' (put .1 .0 ∙ front))
 
 -- ---- a buffer that takes the longest record of 8,000 steps takes the record of every sheet, whole
 
 module _ (b w out : List ℕ) (long : length w ≡ 65536) (wide : longest 8000 ≤ length out) where
   abbrev Whole : Sheet → Type 0
   Whole x =
-      (answerBy out (roomFor (length out) x) .length ≡ length (rehearsal x))
-      × (laidBy out (roomFor (length out) x) ≡ rehearsal x ++ drop (length (rehearsal x)) out)
+      (answerBy out (roomFor longest (length out) x) .length ≡ length (rehearsal x))
+      × (laidBy out (roomFor longest (length out) x) ≡ rehearsal x ++ drop (length (rehearsal x)) out)
 
   whole-sheet : (x : Sheet) → sheetIn b ≡ x → Whole x
   unfolding answerBy laidBy
@@ -335,7 +321,7 @@ answer-long b w out byte = cases Short (eqb (length w) 65536) (λ _. of-sheet (s
     Short : Ruling → Type 0
     Short x = length (recordBy (length out) x) ≤ longest 8000
 
-    of-sheet : (x : Sheet) → sheetIn b ≡ x → Short (roomFor (length out) x)
+    of-sheet : (x : Sheet) → sheetIn b ≡ x → Short (roomFor longest (length out) x)
     of-sheet bad e = cases (λ (l : List ℕ). length l ≤ longest 8000) (ltb (length out) (length badOf)) (λ _. omega arith)
         (λ _. omega (arith, bad-long, longest-is 8000))
     of-sheet (sheet mask ks) e =

@@ -26,8 +26,9 @@ pub record Lined (rows : List ℕ) (row kind number at : ℕ) (l out : List ℕ)
   pub dropped : r .dropped ≡ moved (getD rows (row + answerColumn) 0) kind 7
 
 -- l begins with the bytes of b
-abbrev pub Begins : List ℕ → List ℕ → Type 0
-Begins l b = l ≡ b ++ drop (length b) l
+pub record Begins (l b : List ℕ) : Type 0 where
+  pub rest : List ℕ
+  pub whole : l ≡ b ++ rest
 
 -- the lines of the steps ks of W
 pub record AllLined (W : World) (ks : List Step) (at : ℕ) (l out : List ℕ) (r : Tally) : Type 0 where

@@ -2,15 +2,15 @@
 use mathlib.Core.Path.{_≡_, refl, sym, ap, _∙_}
 use mathlib.Core.Bool.{Bool, true, false}
 use mathlib.Core.List.{List, [], _∷_, _++_, append-assoc, append-nil}
-use Prim.Native.Nat.{ℕ, zero, suc, _+_, _*_, _-_, _^_, _%_, _≤_, _<_}
+use Prim.Native.Nat.{ℕ, zero, suc, _+_, _*_, _%_, _≤_, _<_}
 use native.Mathlib.Nat.{add-zero, zero-add, add-assoc}
 use native.Mathlib.Omega.{arith}
-use lib.Dec.{eqb, ltb}
+use lib.Dec.{ltb}
 use lib.ListN.{length, getD, take, drop, length-append}
 use borrow.Author.Tests.{eq-eqb, ne-eqb, lt-leb, lt-ltb, le-ltb}
-use Rattle.rows.specs.Bytes.{splice, placed, bytesOf, fieldsOf, sum, numberAt}
+use Rattle.rows.specs.Bytes.{splice, placed, bytesOf, fieldsOf, sum}
 use Rattle.rows.proofs.Laws.{placed-fits, placed-nil, Holds, holds-left, holds-right, holds-byte, Put, put-first, put-then}
-use Rattle.rows.proofs.Numbers.{length-bytesOf, fields-length, holds-number, holds-u16, holds-u32}
+use Rattle.rows.proofs.Numbers.{length-bytesOf, fields-length, holds-u16, holds-u32}
 use Rattle.rules.specs.Sets.{if_then_else_}
 use Rattle.rules.specs.Messages.{Event, nothing, opened, readDone, writeDone}
 use Rattle.rules.specs.State.{World, start}
@@ -171,7 +171,7 @@ tracing-none {ks} {l} {w} good room =
 
 -- one more step
 module _ (W : World) (k : Step) (ks : List Step) where
-  next-rows : traceRows (outcomes W (k ∷ ks)) ≡ traceRow (stepped W k) ++ traceRows (outcomes (after W (stepped W k)) ks)
+  pub next-rows : traceRows (outcomes W (k ∷ ks)) ≡ traceRow (stepped W k) ++ traceRows (outcomes (after W (stepped W k)) ks)
   unfolding traceRows outcomes
   next-rows = refl
 

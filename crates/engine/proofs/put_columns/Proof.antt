@@ -3,7 +3,7 @@ use mathlib.Core.Path.{_∙_}
 use borrow.Author.Needs.{needs}
 use Rattle.rows.specs.Bytes.{fieldsOf, cat}
 use Rattle.rows.proofs.Numbers.{byte-number}
-use Rattle.world.specs.Playing.{columnsOf}
+use Rattle.world.specs.Tracing.{columnsOf}
 use Rattle.engine.specs.Told.{toldBytes}
 use Rattle.engine.proofs.put_columns.Statement.{statement}
 use Rattle.engine.proofs.put_columns.Tie as tie

@@ -2,9 +2,9 @@
 use mathlib.Core.Path.{ap}
 use native.Mathlib.Omega.{arith}
 use borrow.Author.Needs.{needs}
-use Rattle.world.specs.declared.run.Rehearsed.{Rehearsed}
+use Rattle.rehearsal.specs.declared.Rehearsed.{Rehearsed}
 use Rattle.rules.proofs.Longest.{longest-is}
-use Rattle.world.proofs.Playing.{answer-long}
+use Rattle.rehearsal.proofs.Playing.{answer-long}
 use Rattle.engine.proofs.Telling.{short-length, turned-away, rehearsed}
 use Rattle.engine.proofs.sheet_rehearse.Statement.{statement}
 use Rattle.engine.proofs.sheet_rehearse.Tie as tie

@@ -1,8 +1,8 @@
--- `world::run::refuse_sheet` meets its contract. Assumes nothing.
+-- `rehearsal::refuse_sheet` meets its contract. Assumes nothing.
 use borrow.Author.Needs.{needs}
-use Rattle.world.proofs.Playing.{bad-short, bad-laid}
-use Rattle.world.proofs.run.refuse_sheet.Statement.{statement}
-use Rattle.world.proofs.run.refuse_sheet.Tie as tie
+use Rattle.rehearsal.proofs.Playing.{bad-short, bad-laid}
+use Rattle.rehearsal.proofs.refuse_sheet.Statement.{statement}
+use Rattle.rehearsal.proofs.refuse_sheet.Tie as tie
 
 returns : tie.Need-returns
 returns c = bad-short (c .before .before .args .out .now) (c .if1 .taken)

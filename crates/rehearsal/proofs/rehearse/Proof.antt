@@ -1,10 +1,11 @@
--- `world::run::rehearse` meets its contract. Assumes nothing.
+-- `rehearsal::rehearse` meets its contract. Assumes nothing.
 use Prim.Native.Nat.{_≤_, _<_}
 use native.Mathlib.Omega.{arith}
 use borrow.Author.Needs.{needs}
-use Rattle.world.proofs.Playing.{found-facts, few-found, misfit, left-bad, left-full, left-good}
-use Rattle.world.proofs.run.rehearse.Statement.{statement}
-use Rattle.world.proofs.run.rehearse.Tie as tie
+use Rattle.world.proofs.Tracing.{found-facts, few-found}
+use Rattle.rehearsal.proofs.Playing.{misfit, left-bad, left-full, left-good}
+use Rattle.rehearsal.proofs.rehearse.Statement.{statement}
+use Rattle.rehearsal.proofs.rehearse.Tie as tie
 
 returns : tie.Need-returns
 returns c =

@@ -9,9 +9,9 @@ use lib.Seq.{take-append-seam}
 use borrow.Author.Needs.{needs}
 use Rattle.rules.specs.Runs.{rehearsed}
 use Rattle.rules.proofs.Longest.{longest-is}
-use Rattle.world.specs.declared.run.Rehearsed.{Rehearsed}
-use Rattle.world.specs.Playing.{rehearseAnswer, recordLeft}
-use Rattle.world.proofs.Playing.{whole-record}
+use Rattle.rehearsal.specs.declared.Rehearsed.{Rehearsed}
+use Rattle.rehearsal.specs.Playing.{rehearseAnswer, recordLeft}
+use Rattle.rehearsal.proofs.Playing.{whole-record}
 use Rattle.rehearse.proofs.main.Statement.{statement}
 use Rattle.rehearse.proofs.main.Tie as tie
 
