@@ -6,7 +6,7 @@
      one to uint32_t is aligned for that type;
    - a buffer that is written shares no byte with any other that is given in the same call;
    - two threads use one buffer at a time only to read it; there is nothing else that calls share;
-   - a call finds room on the stack: fewer than 16,000 bytes were measured (docs/CERTIFICATE.md, "The engine"). None allocates.
+   - a call finds room on the stack: fewer than 16,000 bytes were measured, of a rehearsal fewer than 96,000 (docs/CERTIFICATE.md, "The engine"). None allocates.
 
    Each returns a number of document 01's table. All but 0 leave every byte of every buffer as it was, but for the record of a bad sheet (below). */
 #ifndef ENGINE_H

@@ -18,7 +18,8 @@ use Rattle.layout.specs.Image.{image, goodBytes}
 use Rattle.layout.specs.Lent.{Lent, left, lentStart, lentStep}
 use Rattle.rules.specs.Sheets as sheets
 use Rattle.rules.specs.Sheets.{formOf, maskIn, formIn, stepsOf, stepsIn, allZerosIn, badSheet, listBy, sheetIn}
-use Rattle.rules.specs.Runs.{outcomes, sentBy, deliveredBy, droppedBy, sum, answer, fields, digits, line, stepLines, lastWorld, longest, rehearsed, startOf, endOf, badOf}
+use Rattle.rules.specs.Runs.{outcomes, sentBy, deliveredBy, droppedBy, sum, answer, fields, digits, line, stepLines, lastWorld, longest}
+use Rattle.rules.specs.Runs.{rehearsed, startOf, endOf, badOf}
 use Rattle.rules.specs.Examples.{recorded}
 use Rattle.rules.proofs.Kept.{step-keeps, run-keeps}
 use Rattle.layout.proofs.Widths.{length-image}
@@ -27,7 +28,8 @@ use Rattle.sheet.specs.Writing as writing
 use Rattle.sheet.specs.Writing.{listed, bufferOf}
 use Rattle.record.specs.Lines.{laid}
 use Rattle.world.specs.Answer.{reportOf, lentOf}
-use Rattle.world.specs.Tracing.{waitingRows, traceRow, traceRows, Ruling, roomFor, numberBy, worldBy, tracesWide, traced, stepsBy, traceBy, traceAnswer, traceWorld, traceLeft}
+use Rattle.world.specs.Tracing.{waitingRows, traceRow, traceRows, Ruling, roomFor, numberBy, worldBy, tracesWide, traced, stepsBy, traceBy}
+use Rattle.world.specs.Tracing.{traceAnswer, traceWorld, traceLeft}
 use Rattle.rehearsal.specs.Playing.{decided, answerBy, laidBy, rehearseAnswer, worldLeft, recordLeft}
 use Rattle.world.specs.declared.Answer.{Answer}
 use Rattle.world.specs.declared.Report.the-variants.{Nothing, WriteDone}
@@ -205,7 +207,8 @@ abbrev acceptedRows : ℕ → List Step → List ℕ
 acceptedRows mask ks = traceRows (those (λ o. eqb (answer o) 0) (outcomes (start mask) ks))
 
 pub world-trace-rows-of-accepted-steps-only : ¬ ((sheet world rows : List ℕ) → T (in-bytes sheet) → T (in-bytes world) → T (in-bytes rows)
-    → (if eqb (length world) worldWidth && not (badSheet sheet) then laidAfter rows (acceptedRows (maskIn sheet) (listBy (formIn sheet) sheet)) else traceLeft sheet world rows)
+    → (if eqb (length world) worldWidth && not (badSheet sheet) then laidAfter rows (acceptedRows (maskIn sheet) (listBy (formIn sheet) sheet))
+    else traceLeft sheet world rows)
     ≡ traceLeft sheet world rows)
 unfolding sheetIn stepsIn allZerosIn recorded traceRows traceRow fieldsOf bytesOf numberAt those allZero all formOf
 world-trace-rows-of-accepted-steps-only p =
@@ -274,7 +277,8 @@ rehearsal-rehearse-last-as-it-was p = starts-differ (p blank two wide tt two-byt
 pub rehearsal-rehearse-last-run-without-room : ¬ ((sheet world out : List ℕ) → T (in-bytes sheet) → T (in-bytes world) → T (in-bytes out)
     → (if eqb (length world) worldWidth && not (badSheet sheet) then image (lastWorld (start (maskIn sheet)) (listBy (formIn sheet) sheet)) else worldLeft sheet world out) ≡ worldLeft sheet world out)
 unfolding longest line digits sheetIn stepsIn allZerosIn lastWorld allZero all formOf numberAt
-rehearsal-rehearse-last-run-without-room p = starts-differ (sym (sym (long-right two two-long _ _) ∙ p blank two narrow tt two-bytes tt ∙ left-there two two-long blank narrow))
+rehearsal-rehearse-last-run-without-room p =
+    starts-differ (sym (sym (long-right two two-long _ _) ∙ p blank two narrow tt two-bytes tt ∙ left-there two two-long blank narrow))
 
 pub rehearsal-rehearse-printed-nothing : ¬ ((sheet world out : List ℕ) → T (in-bytes sheet) → T (in-bytes world) → T (in-bytes out)
     → (if badSheet sheet then recordLeft sheet world out else out) ≡ recordLeft sheet world out)
@@ -289,13 +293,15 @@ rehearsal-rehearse-printed-bad-always p = differ (entry 0) (p blank one wide tt 
 pub rehearsal-rehearse-printed-bad-in-part : ¬ ((sheet world out : List ℕ) → T (in-bytes sheet) → T (in-bytes world) → T (in-bytes out)
     → (if eqb (length world) worldWidth && badSheet sheet then laid out 0 badOf else recordLeft sheet world out) ≡ recordLeft sheet world out)
 unfolding laid laidBy sheetIn line digits
-rehearsal-rehearse-printed-bad-in-part p = differ (entry 0) (sym (long-right one one-long _ _) ∙ p [] one narrow tt one-bytes tt ∙ printed-there one one-long [] narrow) tt
+rehearsal-rehearse-printed-bad-in-part p =
+    differ (entry 0) (sym (long-right one one-long _ _) ∙ p [] one narrow tt one-bytes tt ∙ printed-there one one-long [] narrow) tt
 
 -- as much of a record as fits
 pub rehearsal-rehearse-printed-cut-short : ¬ ((sheet world out : List ℕ) → T (in-bytes sheet) → T (in-bytes world) → T (in-bytes out)
     → (if eqb (length world) worldWidth && not (badSheet sheet) then laid out 0 (rehearsed sheet) else recordLeft sheet world out) ≡ recordLeft sheet world out)
 unfolding laid laidBy longest sheetIn stepsIn allZerosIn recorded rehearsed allZero all formOf numberAt
-rehearsal-rehearse-printed-cut-short p = differ (entry 0) (sym (long-right one one-long _ _) ∙ p blank one narrow tt one-bytes tt ∙ printed-there one one-long blank narrow) tt
+rehearsal-rehearse-printed-cut-short p =
+    differ (entry 0) (sym (long-right one one-long _ _) ∙ p blank one narrow tt one-bytes tt ∙ printed-there one one-long blank narrow) tt
 
 -- the record of these steps, with these totals in its last line
 abbrev pub withTotals : ℕ → List Step → ℕ → ℕ → ℕ → ℕ → List ℕ

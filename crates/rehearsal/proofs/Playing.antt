@@ -19,11 +19,12 @@ use Rattle.rules.specs.Sending.{waitingIn}
 use Rattle.rules.specs.Steps.{Outcome, after, stepped}
 use Rattle.rules.specs.WellFormed.{wellFormed}
 use Rattle.rules.specs.Sheets.{Sheet, bad, sheet, sheetIn, badSheet}
-use Rattle.rules.specs.Runs.{outcomes, lastWorld, sum, deliveredBy, droppedBy, answer, digits, line, stepLine, stepLines, longest, printed, startOf, endOf, badOf}
-use Rattle.rules.specs.Runs.{rehearsal, rehearsed}
+use Rattle.rules.specs.Runs.{outcomes, lastWorld, sum, deliveredBy, droppedBy, answer, digits, line, stepLine, stepLines, longest, printed, startOf, endOf}
+use Rattle.rules.specs.Runs.{badOf, rehearsal, rehearsed}
 use Rattle.rules.proofs.Counts.{run-few, sent-is-sum}
 use Rattle.rules.proofs.Kept.{step-keeps, always-good}
 use Rattle.rules.proofs.Longest.{longest-is, printed-longest}
+use Rattle.layout.specs.Layout.{worldWidth}
 use Rattle.layout.specs.Image.{image}
 use Rattle.sheet.specs.declared.Sheet as checked
 use Rattle.sheet.specs.Reading.{checkOf, stepsFrom}
@@ -31,9 +32,10 @@ use Rattle.sheet.proofs.Walk.{accepted, count, sound}
 use Rattle.record.specs.Lines.{laid, past, far}
 use Rattle.record.proofs.Laying.{laid-whole, printed-first, printed-then, printed-as, Printing, printing-none, printing-more, printing-all}
 use Rattle.record.proofs.Whole.{printed-is}
-use Rattle.world.specs.Tracing.{columnsAt, traceRow, traceRows, Ruling, bad-world, bad-sheet, no-room, runs, roomFor, ruling, worldBy, tracesWide}
+use Rattle.world.specs.Tracing.{traceRowWidth, columnsAt, traceRow, traceRows, Ruling, bad-world, bad-sheet, no-room, runs, roomFor, ruling, worldBy, tracesWide}
 use Rattle.world.specs.Tracing.{traced, traceWorld, traceLeft}
-use Rattle.world.proofs.Tracing.{row-long, rows-long, row-back, next-rows, shown-few, some, found-facts, few-found, steps-long, ruling-misfit, ruling-bad, ruling-full, ruling-runs}
+use Rattle.world.proofs.Tracing.{row-long, rows-long, row-back, next-rows, shown-few, some, found-facts, few-found, steps-long}
+use Rattle.world.proofs.Tracing.{ruling-misfit, ruling-bad, ruling-full, ruling-runs}
 use Rattle.rehearsal.specs.declared.Tally.{Tally}
 use Rattle.rehearsal.specs.declared.Rehearsed.{Rehearsed}
 use Rattle.rehearsal.specs.Playing.{Lined, Begins, AllLined, decided, recordBy, answerBy, laidBy, rehearseAnswer, worldLeft, recordLeft}
@@ -93,8 +95,8 @@ step-lined rows row W k number at l out r formed h t =
       dropped = rw first at (t .dropped) ∙ sym (m .dropped);
     }
 
--- ---- before the line of this number, of the steps ks of W: rest are those whose lines are still to be laid, and here is the world before them; their rows stand
--- in rows from row on; out is the record's buffer, p the position past the lines, and d and x the counts
+-- ---- before the line of this number, of the steps ks of W: rest are those whose lines are still to be laid, and here is the world before them; their rows
+-- stand in rows from row on; out is the record's buffer, p the position past the lines, and d and x the counts
 
 pub record Lining (W : World) (ks : List Step) (rows l : List ℕ) (o : ℕ) (out : List ℕ) (row p d x number : ℕ) (rest : List Step) : Type 0 where
   pub here : World
@@ -105,8 +107,8 @@ pub record Lining (W : World) (ks : List Step) (rows l : List ℕ) (o : ℕ) (ou
   pub delivered : d + sum deliveredBy (outcomes here rest) ≡ sum deliveredBy (outcomes W ks)
   pub dropped : x + sum droppedBy (outcomes here rest) ≡ sum droppedBy (outcomes W ks)
 
-pub lining-none : {W : World} {ks : List Step} {rows l : List ℕ} {o : ℕ} → wellFormed W ≡ true → Begins rows (traceRows (outcomes W ks)) → o ≤ far → length l ≤ far
-    → Lining W ks rows l o l 0 o 0 0 1 ks
+pub lining-none : {W : World} {ks : List Step} {rows l : List ℕ} {o : ℕ} → wellFormed W ≡ true → Begins rows (traceRows (outcomes W ks)) → o ≤ far
+    → length l ≤ far → Lining W ks rows l o l 0 o 0 0 1 ks
 lining-none {W} formed h near small =
     record {
       here = W;
@@ -137,11 +139,11 @@ module _ {W : World} {ks : List Step} {rows l : List ℕ} {o : ℕ} {out : List 
   few = (omega (arith, h .delivered, run-few W ks), omega (arith, h .dropped, run-few W ks))
 
   module _ (k : Step) (later : List Step) (e : rest ≡ k ∷ later) where
-    pub lining-room : row + 10 ≤ length rows
+    pub lining-room : row + traceRowWidth ≤ length rows
     lining-room = omega (arith, holds-long rows (traceRows (outcomes (h .here) rest)) row (h .held), rows-long (h .here) rest, ap length e)
 
     pub lining-more : (out' : List ℕ) (r : Tally) → Lined rows row (k .kind) number p out out' r
-        → Lining W ks rows l o out' (row + 10) (r .at) (d + r .delivered) (x + r .dropped) (number + 1) later
+        → Lining W ks rows l o out' (row + traceRowWidth) (r .at) (d + r .delivered) (x + r .dropped) (number + 1) later
     lining-more out' r t =
         let here : World = h .here in
         let now : Outcome = stepped here k in
@@ -153,7 +155,7 @@ module _ {W : World} {ks : List Step} {rows l : List ℕ} {o : ℕ} {out : List 
         (record {
           here = next;
           formed = step-keeps here k (h .formed);
-          held = holds-right rows (traceRow now) (traceRows (outcomes next later)) row 10 (row-long now) held;
+          held = holds-right rows (traceRow now) (traceRows (outcomes next later)) row traceRowWidth (row-long now) held;
           taken = omega (arith, h .taken, ap length e);
           lines = printing-more (stepLine number now) out' (stepLines (suc number) (outcomes next later)) (h .lines)
               (ap (λ (a : List Step). stepLines number (outcomes here a)) e ∙ next-lines here k later number) (s .line);
@@ -191,7 +193,7 @@ module _ (b : List ℕ) (mask : ℕ) (good : badSheet b ≡ false) (m : mask ≡
   unfolding checkOf
   not-bad = rw good
 
-  pub trace-runs : (w rows w' rows' : List ℕ) → length w ≡ 65536 → 80000 ≤ length rows → (w' ≡ traceWorld b w rows) × (rows' ≡ traceLeft b w rows)
+  pub trace-runs : (w rows w' rows' : List ℕ) → length w ≡ worldWidth → 80000 ≤ length rows → (w' ≡ traceWorld b w rows) × (rows' ≡ traceLeft b w rows)
       → (w' ≡ image (lastWorld (start mask) (stepsFrom b 6))) × Begins rows' (traceRows (outcomes (start mask) (stepsFrom b 6)))
   unfolding traceWorld traceLeft traced
   trace-runs w rows w' rows' long wide h =
@@ -219,7 +221,8 @@ module _ (b : List ℕ) (mask : ℕ) (good : badSheet b ≡ false) (m : mask ≡
         let end : List ℕ = endOf (t .delivered + t .dropped + waitingIn (last .places)) (t .delivered) (t .dropped) (waitingIn (last .places)) in
         let all = printed-then end out₃ (printed-then (stepLines 1 os) out₂ (printed-first (startOf mask) begun) near (ran .lines)) near
         (ends last formed is, ended last formed is) in
-        let same : end ≡ endOf (sum deliveredBy os + sum droppedBy os + waitingIn (last .places)) (sum deliveredBy os) (sum droppedBy os) (waitingIn (last .places)) =
+        let same : end
+        ≡ endOf (sum deliveredBy os + sum droppedBy os + waitingIn (last .places)) (sum deliveredBy os) (sum droppedBy os) (waitingIn (last .places)) =
         rw (ran .delivered, ran .dropped) in
         let whole : (startOf mask ++ stepLines 1 os) ++ end ≡ printed mask ks =
         append-assoc (startOf mask) (stepLines 1 os) end ∙ ap (λ (a : List ℕ). startOf mask ++ (stepLines 1 os ++ a)) same ∙ whole-is mask ks in
@@ -263,10 +266,10 @@ module _ (b w out : List ℕ) where
   unfolding laidBy
   run-laid mask ks out' e = e
 
-  pub misfit : (length w ≡ 65536 → ⊥) → Left (record { answer = 1; length = 0 }) w out
+  pub misfit : (length w ≡ worldWidth → ⊥) → Left (record { answer = 1; length = 0 }) w out
   misfit h = left-by bad-world (ruling-misfit longest b w out h) _ _ _ (unfold answerBy in refl) refl (unfold laidBy in refl)
 
-  module _ (long : length w ≡ 65536) (s : checked.Sheet) (e : s ≡ checkOf b) where
+  module _ (long : length w ≡ worldWidth) (s : checked.Sheet) (e : s ≡ checkOf b) where
     pub left-bad : s .bad ≡ true → (r : Rehearsed) (out' : List ℕ) → (r ≡ answerBy out bad-sheet) × (out' ≡ laidBy out bad-sheet) → Left r w out'
     left-bad t r out' h = left-by bad-sheet (ruling-bad longest b w out long s e t) r w out' (h .0) refl (h .1)
 
@@ -293,7 +296,7 @@ module _ (b w out : List ℕ) where
 
 -- ---- a buffer that takes the longest record of 8,000 steps takes the record of every sheet, whole
 
-module _ (b w out : List ℕ) (long : length w ≡ 65536) (wide : longest 8000 ≤ length out) where
+module _ (b w out : List ℕ) (long : length w ≡ worldWidth) (wide : longest 8000 ≤ length out) where
   abbrev Whole : Sheet → Type 0
   Whole x =
       (answerBy out (roomFor longest (length out) x) .length ≡ length (rehearsal x))

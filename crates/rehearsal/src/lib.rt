@@ -111,8 +111,8 @@ fn put_totals(w: &[u8], out: &mut [u8], t: Tally) -> usize
     )
 }
 
-// The trace of 8,000 steps: "over 8,000 steps" is no sheet. It stands on the stack.
-const ROWS: usize = 80000;
+// Room for the trace of any sheet, which has at most 8,000 steps: 80,000 bytes of the stack.
+const ROWS: usize = 8000 * TRACE_ROW;
 
 // An accepted sheet.
 fn play(sheet: &[u8], mask: u8, w: &mut [u8], out: &mut [u8]) -> usize

@@ -25,6 +25,7 @@ use Rattle.rules.proofs.Counts.{places-all}
 use Rattle.rules.proofs.Starts.{start-good}
 use Rattle.rules.proofs.Refusals.{every-answer}
 use Rattle.rules.proofs.Kept.{step-keeps, step-tells}
+use Rattle.layout.specs.Layout.{worldWidth}
 use Rattle.layout.specs.Image.{image, worldAt, goodBytes}
 use Rattle.layout.specs.Lent.{Lent, left, lentStep, lentStart}
 use Rattle.layout.proofs.Fits.{pair-fits}
@@ -36,7 +37,7 @@ use Rattle.world.specs.declared.Answer.{Answer}
 use Rattle.world.specs.declared.run.Traced.{Traced}
 use Rattle.world.specs.Answer.{reportOf, lentOf, columns}
 use Rattle.world.specs.Commits.{freeRows}
-use Rattle.world.specs.Tracing.{waitingRows, columnsBytes, columnsAt, traceRow, traceRows, Stepped, Ruling, bad-world, bad-sheet, no-room, runs}
+use Rattle.world.specs.Tracing.{waitingRows, traceRowWidth, columnsBytes, columnsAt, traceRow, traceRows, Stepped, Ruling, bad-world, bad-sheet, no-room, runs}
 use Rattle.world.specs.Tracing.{roomFor, ruling, numberBy, worldBy, tracesWide, traced, stepsBy, traceBy, traceAnswer, traceWorld, traceLeft}
 use Rattle.world.proofs.Places.{free-rows}
 
@@ -49,7 +50,7 @@ waiting-rows W w formed e =
 
 -- ---- rows
 
-pub row-long : (o : Outcome) → length (traceRow o) ≡ 10
+pub row-long : (o : Outcome) → length (traceRow o) ≡ traceRowWidth
 unfolding traceRow
 row-long o = fields-length _ _
 
@@ -88,9 +89,14 @@ columns-back : (l : List ℕ) (o : ℕ) (xs : List ℕ) → ColumnsFit xs → Ho
 unfolding columnsAt
 columns-back l o xs f h =
     let at : (i : ℕ) → i < 6 → Holds l _ _ = λ i k. fields-at (1 ∷ 1 ∷ 1 ∷ 2 ∷ 1 ∷ 4 ∷ []) xs l o i k h in
-    rw (byte-at l (o + 0) (getD xs 0 0) (f .answer) (at 0 (omega arith)), byte-at l (o + 1) (getD xs 1 0) (f .event) (at 1 (omega arith)),
-    byte-at l (o + 2) (getD xs 2 0) (f .who) (at 2 (omega arith)), holds-u16 l (o + 3) (getD xs 3 0) (f .count) (at 3 (omega arith)),
-    byte-at l (o + 5) (getD xs 4 0) (f .desk) (at 4 (omega arith)), holds-u32 l (o + 6) (getD xs 5 0) (f .last) (at 5 (omega arith)))
+    rw (
+      byte-at l (o + 0) (getD xs 0 0) (f .answer) (at 0 (omega arith)),
+      byte-at l (o + 1) (getD xs 1 0) (f .event) (at 1 (omega arith)),
+      byte-at l (o + 2) (getD xs 2 0) (f .who) (at 2 (omega arith)),
+      holds-u16 l (o + 3) (getD xs 3 0) (f .count) (at 3 (omega arith)),
+      byte-at l (o + 5) (getD xs 4 0) (f .desk) (at 4 (omega arith)),
+      holds-u32 l (o + 6) (getD xs 5 0) (f .last) (at 5 (omega arith)),
+    )
 
 event-fits : (a : ℕ) (e : Event) (who : ℕ) → a < 256 → EventWell e → who < 8 → ColumnsFit (a ∷ fields e who)
 event-fits a nothing who s t l =
@@ -130,7 +136,11 @@ module _ (b : List ℕ) (good : goodBytes b ≡ true) (a : Answer) (w : List ℕ
   outcome-answered : (o : Outcome) → lentOf a w ≡ left b o → Answered a o (worldAt b) w
   unfolding lentOf
   outcome-answered (refusal x) e =
-      record { number = ap (λ (l : Lent). l .answer) e; report = ap (λ (l : Lent). l .report) e; world = ap (λ (l : Lent). l .buffer) e ∙ sym (good-image b good) }
+      record {
+        number = ap (λ (l : Lent). l .answer) e;
+        report = ap (λ (l : Lent). l .report) e;
+        world = ap (λ (l : Lent). l .buffer) e ∙ sym (good-image b good);
+      }
   outcome-answered (done v r s d x) e =
       record { number = ap (λ (l : Lent). l .answer) e; report = ap (λ (l : Lent). l .report) e; world = ap (λ (l : Lent). l .buffer) e }
 
@@ -138,7 +148,7 @@ module _ (b : List ℕ) (good : goodBytes b ≡ true) (a : Answer) (w : List ℕ
   unfolding lentStep
   step-answered k e = outcome-answered (stepped (worldAt b) k) (rw good at e)
 
-start-answered : (b : List ℕ) (mask : ℕ) (a : Answer) (w : List ℕ) → length b ≡ 65536 → (mask ≡ 0 → ⊥) → mask < 256 → lentOf a w ≡ lentStart b mask
+start-answered : (b : List ℕ) (mask : ℕ) (a : Answer) (w : List ℕ) → length b ≡ worldWidth → (mask ≡ 0 → ⊥) → mask < 256 → lentOf a w ≡ lentStart b mask
     → w ≡ image (start mask)
 unfolding lentStart lentOf
 start-answered b mask a w long some small e = ap (λ (l : Lent). l .buffer) (rw (long, ne-eqb mask 0 some, lt-leb 256 mask small) at e)
@@ -181,7 +191,7 @@ module _ (W : World) (k : Step) (ks : List Step) where
 
 module _ {W : World} {ks : List Step} {l w rows : List ℕ} {at : ℕ} {rest : List Step} (h : Tracing W ks l w rows at rest) where
   pub tracing-more : (k : Step) (later : List Step) (w' rows' : List ℕ) → rest ≡ k ∷ later → Stepped (worldAt w) k at rows w' rows'
-      → Tracing W ks l w' rows' (at + 10) later
+      → Tracing W ks l w' rows' (at + traceRowWidth) later
   tracing-more k later w' rows' e t =
       let here : World = worldAt w in
       let o : Outcome = stepped here k in
@@ -217,8 +227,8 @@ module _ (b : List ℕ) (mask : ℕ) (good : badSheet b ≡ false) (m : mask ≡
   pub begins : wellFormed (start mask) ≡ true
   begins = start-good mask (omega (arith, some)) small
 
-  pub started : (w v : List ℕ) (a : Answer) → length w ≡ 65536 → lentOf a v ≡ lentStart w mask
-      → (goodBytes v ≡ true) × ((worldAt v ≡ start mask) × (length v ≡ 65536))
+  pub started : (w v : List ℕ) (a : Answer) → length w ≡ worldWidth → lentOf a v ≡ lentStart w mask
+      → (goodBytes v ≡ true) × ((worldAt v ≡ start mask) × (length v ≡ worldWidth))
   started w v a long e =
       let is : v ≡ image (start mask) = start-answered w mask a v long some small e in
       let fine : goodBytes v ≡ true = rw is (image-good (start mask) begins) in
@@ -256,12 +266,12 @@ module _ (b : List ℕ) (s : checked.Sheet) (e : s ≡ checkOf b) where
 -- ---- what is ruled, by what n steps may need
 
 module _ (needed : ℕ → ℕ) (b w out : List ℕ) where
-  pub ruling-misfit : (length w ≡ 65536 → ⊥) → ruling needed b w out ≡ bad-world
-  ruling-misfit h = rw (ne-eqb (length w) 65536 h)
+  pub ruling-misfit : (length w ≡ worldWidth → ⊥) → ruling needed b w out ≡ bad-world
+  ruling-misfit h = rw (ne-eqb (length w) worldWidth h)
 
-  module _ (long : length w ≡ 65536) (s : checked.Sheet) (e : s ≡ checkOf b) where
+  module _ (long : length w ≡ worldWidth) (s : checked.Sheet) (e : s ≡ checkOf b) where
     ruling-by : (x : Sheet) → sheetIn b ≡ x → ruling needed b w out ≡ roomFor needed (length out) x
-    ruling-by x f = rw (eq-eqb (length w) 65536 long, f)
+    ruling-by x f = rw (eq-eqb (length w) worldWidth long, f)
 
     pub ruling-bad : s .bad ≡ true → ruling needed b w out ≡ bad-sheet
     ruling-bad t = ruling-by bad (found-bad b s e t)
@@ -299,24 +309,24 @@ module _ (b w rows : List ℕ) where
   unfolding traceAnswer traceWorld traceLeft traced
   left-by x e w' rows' f g = (rw e, (rw e f, rw e g))
 
-  pub misfit : (length w ≡ 65536 → ⊥) → Left (record { answer = 1; steps = 0 }) w rows
+  pub misfit : (length w ≡ worldWidth → ⊥) → Left (record { answer = 1; steps = 0 }) w rows
   misfit h = left-by bad-world (ruling-misfit tracesWide b w rows h) w rows refl refl
 
-  module _ (long : length w ≡ 65536) (s : checked.Sheet) (e : s ≡ checkOf b) where
+  module _ (long : length w ≡ worldWidth) (s : checked.Sheet) (e : s ≡ checkOf b) where
     pub left-bad : s .bad ≡ true → Left (record { answer = 9; steps = 0 }) w rows
     left-bad t = left-by bad-sheet (ruling-bad tracesWide b w rows long s e t) w rows refl refl
 
     module _ (t : s .bad ≡ false) where
-      pub left-full : length rows < s .steps * 10 → Left (record { answer = 8; steps = 0 }) w rows
+      pub left-full : length rows < tracesWide (s .steps) → Left (record { answer = 8; steps = 0 }) w rows
       left-full l = left-by no-room (ruling-full tracesWide b w rows long s e t l) w rows refl refl
 
-      pub left-good : s .steps * 10 ≤ length rows → (v w' rows' : List ℕ) → worldAt v ≡ start (s .mask)
+      pub left-good : tracesWide (s .steps) ≤ length rows → (v w' rows' : List ℕ) → worldAt v ≡ start (s .mask)
           → (w' ≡ image (lastWorld (worldAt v) (stepsFrom b 6))) × (rows' ≡ placed rows 0 (traceRows (outcomes (worldAt v) (stepsFrom b 6))))
           → Left (record { answer = 0; steps = s .steps }) w' rows'
       left-good l v w' rows' is h =
           let ks : List Step = stepsFrom b 6 in
           let all : List ℕ = traceRows (outcomes (start (s .mask)) ks) in
-          let many : length all ≡ s .steps * 10 = rows-long (start (s .mask)) ks ∙ ap (λ (n : ℕ). n * 10) (steps-long b s e t) in
+          let many : length all ≡ tracesWide (s .steps) = rows-long (start (s .mask)) ks ∙ ap tracesWide (steps-long b s e t) in
           let laid : placed rows 0 all ≡ all ++ drop (length all) rows = front (length all) rows all refl (omega (arith, many, l)) in
           rw (steps-long b s e t) at
           (left-by (runs (s .mask) ks) (ruling-runs tracesWide b w rows long s e t l) w' rows' (rw is at (h .0)) (rw is at (h .1) ∙ laid))

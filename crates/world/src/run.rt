@@ -138,7 +138,8 @@ pub struct Traced {
     pub steps: usize,
 }
 
-// The trace of a sheet's run from the start of its mask, from the front of `rows`, and the last world. Whether there is room is decided before anything is done.
+// The trace of a sheet's run from the start of its mask, laid from the front of `rows`, and the last world. Whether there is room is decided before anything is
+// done.
 pub fn trace(sheet: &[u8], world: &mut [u8], rows: &mut [u8]) -> Traced
     ensures answer { λ r. ⌜ r ≡ traceAnswer (now (sheet .entry)) (now (world .entry)) (now (rows .entry)) ⌝ }
     ensures last { λ _. ⌜ now (world .exit) ≡ traceWorld (now (sheet .entry)) (now (world .entry)) (now (rows .entry)) ⌝ }

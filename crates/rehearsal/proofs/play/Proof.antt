@@ -66,8 +66,8 @@ returns c =
     let m : getD b 5 0 ≡ a .mask = sym (s .pre .1 .1) in
     let is = rw m at (ran traced .0) in
     let p = played b (a .mask) (s .pre .1 .0) (s .pre .1 .1) (small known) (a .out .now) (traced .trace .last .1 .0) _ _ _ (head .put-start .result)
-    (put .put-totals .result) (lined .put-rows .result) (near known) is (head .put-start .ensures) (rw m at (lined .put-rows .ensures)) (put .put-totals .ensures .0)
-    (put .put-totals .ensures .1) in
+    (put .put-totals .result) (lined .put-rows .result) (near known) is (head .put-start .ensures) (rw m at (lined .put-rows .ensures))
+    (put .put-totals .ensures .0) (put .put-totals .ensures .1) in
     (p .0, (p .1, is))
 
 pub play-spec : {M : Type 1} → statement M

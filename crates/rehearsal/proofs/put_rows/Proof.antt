@@ -8,6 +8,7 @@ use borrow.Author.Needs.{needs}
 use Rattle.rules.specs.State.{start}
 use Rattle.sheet.specs.Reading.{stepsFrom}
 use Rattle.sheet.proofs.Walk.{taken-step, taken-end}
+use Rattle.world.specs.Tracing.{traceRowWidth}
 use Rattle.world.proofs.Tracing.{shown-few, begins}
 use Rattle.rehearsal.proofs.Playing.{little, Lining, lining-none, lining-room, lining-more, lining-all, few}
 use Rattle.rehearsal.proofs.put_rows.Statement.{statement}
@@ -54,7 +55,7 @@ returns c =
 -- its row is there
 row-there : (c : tie.After-put-row-arg Inv-loop μ-loop) →
     let l = c .before .before .before .before .before in
-    l .loop .row + 10 ≤ length (l .before .before .before .before .args .rows .now)
+    l .loop .row + traceRowWidth ≤ length (l .before .before .before .before .args .rows .now)
 row-there c = lining-room (c .before .before .before .before .before .loop .inv) _ _ (step-read c)
 
 add-delivered : tie.Need-add-delivered Inv-loop μ-loop
@@ -89,19 +90,5 @@ loop-again c =
 pub put-rows-spec : {M : Type 1} → statement M
 put-rows-spec =
     tie.close
-    (tie.spec
-    Inv-loop
-    μ-loop
-    loop-holds
-    (λ c κs. tt)
-    (λ c. search needs)
-    (λ c. search needs)
-    (λ c. c .before .before .before .loop .inv .lines .long)
-    returns
-    (λ c κs. row-there c)
-    add-delivered
-    add-dropped
-    add-number
-    add-row
-    loop-less
-    loop-again)
+    (tie.spec Inv-loop μ-loop loop-holds (λ c κs. tt) (λ c. search needs) (λ c. search needs) (λ c. c .before .before .before .loop .inv .lines .long) returns
+    (λ c κs. row-there c) add-delivered add-dropped add-number add-row loop-less loop-again)

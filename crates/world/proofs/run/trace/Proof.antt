@@ -21,7 +21,8 @@ returns-2 c =
 mul-if3 : tie.Need-mul-if3
 mul-if3 c =
     let check = c .before .before in
-    omega (arith, few-found (check .before .before .before .before .before .args .sheet .now) (check .check .result) (check .check .ensures) (c .before .if2 .left))
+    let b = check .before .before .before .before .before .args .sheet .now in
+    omega (arith, few-found b (check .check .result) (check .check .ensures) (c .before .if2 .left))
 
 returns-3 : tie.Need-returns-3
 returns-3 c =
@@ -47,7 +48,7 @@ turns-requires c κs =
     let f = found-facts (a .sheet .now) s (check .check .ensures) (good .if2 .left) in (
       (
         started (a .sheet .now) (s .mask) (f .0) (f .1) (small known) (a .world .now) (begun .start .last .0) (begun .start .result) (fits .if1 .left)
-        (begun .start .ensures) .0,
+            (begun .start .ensures) .0,
         f .0,
       ),
       omega (arith, steps-long (a .sheet .now) s (check .check .ensures) (good .if2 .left), begun .before .before .if3 .left),

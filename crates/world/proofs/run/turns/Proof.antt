@@ -42,7 +42,8 @@ returns : tie.Need-returns Inv-loop μ-loop
 returns c =
     let r = c .before .before in
     let l = r .before in
-    tracing-all (l .loop .inv) (taken-end (l .before .before .before .before .args .sheet .now) (l .loop .from) (r .read-at .result) (r .read-at .ensures) (c .enum-told .given .1))
+    tracing-all (l .loop .inv)
+    (taken-end (l .before .before .before .before .args .sheet .now) (l .loop .from) (r .read-at .result) (r .read-at .ensures) (c .enum-told .given .1))
 
 add-at : tie.Need-add-at Inv-loop μ-loop
 add-at c =
