@@ -18,7 +18,7 @@ use Rattle.rules.specs.declared.Step.{Step}
 use Rattle.rules.specs.Sending.{waitingIn}
 use Rattle.rules.specs.Steps.{Outcome, refusal, done, after, report, stepped}
 use Rattle.rules.specs.WellFormed.{wellFormed}
-use Rattle.rules.specs.Sheets.{Sheet, bad, sheet, sheetIn, badSheet, stepsIn, stepsOf}
+use Rattle.rules.specs.Sheets.{Sheet, bad, sheet, sheetIn, badSheet, stepsIn, stepsOf, formIn}
 use Rattle.rules.specs.Runs.{outcomes, lastWorld, answer, fields}
 use Rattle.rules.proofs.Sends.{EventWell}
 use Rattle.rules.proofs.Counts.{places-all}
@@ -244,9 +244,9 @@ module _ (b : List ℕ) (s : checked.Sheet) (e : s ≡ checkOf b) where
   found-good : s .bad ≡ false → sheetIn b ≡ sheet (s .mask) (stepsFrom b 6)
   unfolding readOf
   found-good t =
-      let read : sheetIn b ≡ sheet (s .mask) (stepsIn (s .steps) (drop 6 b)) = sym (rw t at (ap (λ (x : checked.Sheet). readOf x b) e ∙ check-reads b)) in
-      read
-      ∙ ap (sheet (s .mask)) (sym (read-front b (s .mask) (stepsIn (s .steps) (drop 6 b)) (accepted b (s .mask) (stepsIn (s .steps) (drop 6 b)) read)))
+      let ks : List Step = stepsIn (formIn b) (s .steps) (drop 6 b) in
+      let read : sheetIn b ≡ sheet (s .mask) ks = sym (rw t at (ap (λ (x : checked.Sheet). readOf x b) e ∙ check-reads b)) in
+      read ∙ ap (sheet (s .mask)) (sym (read-front b (s .mask) ks (accepted b (s .mask) ks read)))
 
   pub found-facts : s .bad ≡ false → (badSheet b ≡ false) × (s .mask ≡ getD b 5 0)
   found-facts t =
