@@ -8,6 +8,7 @@ use lib.ListN.{length, getD, drop}
 use Rattle.rules.specs.Sets.{if_then_else_}
 use Rattle.rules.specs.State.{World}
 use Rattle.rules.specs.declared.Step.{Step}
+use Rattle.rules.specs.Steps.{DELIVER, DROP}
 use Rattle.rules.specs.Runs.{outcomes, sum, deliveredBy, droppedBy, line, stepLines, printed, longest, badOf}
 use Rattle.record.specs.Lines.{laid, past}
 use Rattle.world.specs.Tracing.{Ruling, bad-world, bad-sheet, no-room, runs, ruling, numberBy, worldBy, answerColumn, columnsAt}
@@ -22,8 +23,8 @@ moved answer kind that = if eqb answer 0 && eqb kind that then 1 else 0
 -- "6 DELIVER place, 7 DROP place"
 pub record Lined (rows : List ℕ) (row kind number at : ℕ) (l out : List ℕ) (r : Tally) : Type 0 where
   pub line : (r .at ≡ past at (line (number ∷ columnsAt rows row))) × (out ≡ laid l at (line (number ∷ columnsAt rows row)))
-  pub delivered : r .delivered ≡ moved (getD rows (row + answerColumn) 0) kind 6
-  pub dropped : r .dropped ≡ moved (getD rows (row + answerColumn) 0) kind 7
+  pub delivered : r .delivered ≡ moved (getD rows (row + answerColumn) 0) kind DELIVER
+  pub dropped : r .dropped ≡ moved (getD rows (row + answerColumn) 0) kind DROP
 
 -- l begins with the bytes of b
 pub record Begins (l b : List ℕ) : Type 0 where

@@ -32,11 +32,6 @@ struct Tally {
     dropped: u32,
 }
 
-// "6 DELIVER place, 7 DROP place"
-const DELIVER: u8 = 6;
-
-const DROP: u8 = 7;
-
 // "a line a step: number from 1, answer, event, who, stamp count, stamp desk": of the row at `row`. Its answer and the step's kind tell what the step
 // delivered and dropped.
 fn put_row(rows: &[u8], row: usize, kind: u8, out: &mut [u8], at: usize, number: u32) -> Tally
@@ -52,8 +47,8 @@ fn put_row(rows: &[u8], row: usize, kind: u8, out: &mut [u8], at: usize, number:
     let next = record::put_step(out, at, number, answer, event, who, count, desk, last);
     Tally {
         at: next,
-        delivered: ((answer == 0) & (kind == DELIVER)) as u32,
-        dropped: ((answer == 0) & (kind == DROP)) as u32,
+        delivered: ((answer == 0) & (kind == rules::DELIVER)) as u32,
+        dropped: ((answer == 0) & (kind == rules::DROP)) as u32,
     }
 }
 

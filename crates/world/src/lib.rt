@@ -18,6 +18,8 @@ ghost use Rattle.locality.specs.Narrow.{generatorOfBody, move, moveOfBody};
 ghost use Rattle.locality.specs.Asked.{Few, relayAsked, deskAsked};
 ghost use Rattle.world.specs.Commits.{freeRow, delivered, relayLeft, deskLeft, relayActs, deskActs, placeAct, actorOf};
 ghost use Rattle.world.specs.Tracing.{waitingRows};
+use layout::DESK_WIDTH;
+use layout::WORLD_DESKS;
 use rules::Desk;
 use rules::Step;
 use stamps::Pair;
@@ -129,11 +131,7 @@ fn desk_commits(w: &mut [u8], n: u8, p: usize, plan: DeskPlan) -> Answer
     if !reads::has_room(w, p, first.receivers, 0) {
         return refuses(rules::NO_ROOM);
     }
-    image::put_desk(
-        w,
-        layout::WORLD_DESKS + n as usize * layout::DESK_WIDTH,
-        desk,
-    );
+    image::put_desk(w, WORLD_DESKS + n as usize * DESK_WIDTH, desk);
     writes::free(w, p);
     writes::send(w, 8 + n, first);
     tells(event, n)
@@ -182,7 +180,7 @@ fn desk_acts(w: &mut [u8], kind: u8, n: u8, x: u32) -> Answer
     requires { ⌜ (goodBytes (now w) ≡ true) × (n < 4) ⌝ }
     ensures { λ r. ⌜ lentOf r (now (w .exit)) ≡ lent.left (now (w .entry)) (deskActs (worldAt (now (w .entry))) kind n x) ⌝ }
 {
-    let desk = image::desk_at(w, layout::WORLD_DESKS + n as usize * layout::DESK_WIDTH);
+    let desk = image::desk_at(w, WORLD_DESKS + n as usize * DESK_WIDTH);
     let plan = desk_asked(kind, x, desk);
     desk_commits(w, n, 256, plan)
 }
@@ -241,7 +239,7 @@ fn to_desk(w: &mut [u8], p: usize, m: Message) -> Answer
     let n = m.to - 8;
     let from = m.from;
     let body = m.body;
-    let desk = image::desk_at(w, layout::WORLD_DESKS + n as usize * layout::DESK_WIDTH);
+    let desk = image::desk_at(w, WORLD_DESKS + n as usize * DESK_WIDTH);
     let plan = desk::hears(n, desk, from, body);
     desk_commits(w, n, p, plan)
 }
