@@ -437,13 +437,13 @@ unfolding writing.ruled
 engine-sheet-write-answer-done-always p = differ itself (p page 1 (5 ∷ []) (0 ∷ []) [] tt tt tt tt tt) tt
 
 pub engine-sheet-write-answer-of-the-shortest : ¬ ((buf : List ℕ) (mask : ℕ) (kinds ids values : List ℕ) → T (in-bytes buf) → T (in-u8 mask) → T (in-bytes kinds) → T (in-bytes ids) → T (in-u32s values)
-    → sheets.number (sheets.written buf mask (listed kinds ids values)) ≡ sheets.number (writing.ruled buf mask kinds ids values))
-unfolding writing.ruled listed sheets.written sheets.sheetBytes sheets.stepsBytes
+    → sheets.number (sheets.written sheets.version1 buf mask (listed kinds ids values)) ≡ sheets.number (writing.ruled buf mask kinds ids values))
+unfolding writing.ruled listed sheets.written sheets.sheetBytes sheets.stepsBytes bytesOf
 engine-sheet-write-answer-of-the-shortest p = differ itself (p page 1 (5 ∷ []) (0 ∷ []) [] tt tt tt tt tt) tt
 
 pub engine-sheet-write-left-as-it-was : ¬ ((buf : List ℕ) (mask : ℕ) (kinds ids values : List ℕ) → T (in-bytes buf) → T (in-u8 mask) → T (in-bytes kinds) → T (in-bytes ids) → T (in-u32s values)
     → buf ≡ bufferOf buf (writing.ruled buf mask kinds ids values))
-unfolding writing.ruled listed sheets.written sheets.sheetBytes sheets.stepsBytes
+unfolding writing.ruled listed sheets.written sheets.sheetBytes sheets.stepsBytes bytesOf
 engine-sheet-write-left-as-it-was p = differ (entry 0) (p page 1 [] [] [] tt tt tt tt tt) tt
 
 -- told too short for the length, and a world of no length: BAD WORLD
