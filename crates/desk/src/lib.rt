@@ -35,7 +35,7 @@ fn refuses(answer: u8) -> DeskPlan
     DeskPlan {
         answer: answer,
         desk: desk,
-        first: messages::no_sending(),
+        sends: messages::nothing_sent(),
         event: Event::Nothing,
     }
 }
@@ -46,7 +46,7 @@ fn tells(d: Desk, event: Event) -> DeskPlan
     DeskPlan {
         answer: 0,
         desk: d,
-        first: messages::no_sending(),
+        sends: messages::nothing_sent(),
         event: event,
     }
 }
@@ -114,7 +114,7 @@ fn begins(d: Desk, phase: Phase, v: u16, p: Pair) -> DeskPlan
     DeskPlan {
         answer: 0,
         desk: next,
-        first: messages::to_members(v, body),
+        sends: messages::one_sent(messages::to_members(v, body)),
         event: Event::Nothing,
     }
 }

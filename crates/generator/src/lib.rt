@@ -64,11 +64,9 @@ pub fn agree(v: u16, n: Notes, q: Sequence) -> bool
 fn quiet(next: Generator) -> Turn
     ensures { λ r. ⌜ turnOf r ≡ turned (turn (generatorOf next) []) ⌝ }
 {
-    let nothing = messages::no_sending();
     Turn {
         next: next,
-        first: nothing,
-        second: nothing,
+        sends: messages::nothing_sent(),
     }
 }
 
@@ -77,8 +75,7 @@ fn sends(next: Generator, s: Sending) -> Turn
 {
     Turn {
         next: next,
-        first: s,
-        second: messages::no_sending(),
+        sends: messages::one_sent(s),
     }
 }
 
@@ -141,11 +138,10 @@ pub fn proposal_heard(g: Generator, from: u8, q: Sequence) -> Turn
     }
     let own = m.own;
     let next = settled.next;
-    let then = settled.first;
+    let then = settled.sends;
     Turn {
         next: next,
-        first: messages::to_members(v, messages::proposal(v, own)),
-        second: then,
+        sends: messages::sent_before(messages::to_members(v, messages::proposal(v, own)), then),
     }
 }
 

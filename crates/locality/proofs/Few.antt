@@ -1,22 +1,23 @@
--- A relay or a desk sends at most two things in a step: what goes out is the copies of the first and of the second. Assumes nothing.
-use mathlib.Core.Path.{_≡_, refl}
+-- A relay or a desk sends no more in a step than a plan has room for: what goes out is the copies of what the plan says. Assumes nothing.
+use mathlib.Core.Path.{_≡_, refl, ap}
 use mathlib.Core.Bool.{_&&_}
-use mathlib.Core.List.{List, [], _∷_, _++_, append-nil}
-use Prim.Native.Nat.{ℕ, _≤_}
+use mathlib.Core.List.{List, [], _∷_, _++_}
+use Prim.Native.Nat.{ℕ, zero, suc, _≤_}
+use native.Mathlib.Nat.{le-of-suc-le-suc}
 use native.Mathlib.Omega.{arith}
 use lib.Dec.{eqb, lit≤}
 use lib.ListN.{length}
 use Rattle.views.proofs.Truth.{cases}
 use Rattle.rules.specs.Sets.{if_then_else_, those, inside, reaches}
 use Rattle.rules.specs.Stamps.{Pair}
-use Rattle.rules.specs.Messages.{Body, request, view, proposal, converged, install, state, get, put, viewReply, pairReply, ack, Sending, copies, outgoing, Event, Refusal, Answer, refused, does}
+use Rattle.rules.specs.Messages.{Body, request, view, proposal, converged, install, state, get, put, viewReply, pairReply, ack, Sending, Message, copies, outgoing, Event, Refusal, Answer, refused, does}
 use Rattle.rules.specs.State.{Relay}
 use Rattle.rules.specs.declared.Desk.{Desk}
 use Rattle.rules.specs.declared.Phase.{Phase}
 use Rattle.rules.specs.declared.Phase.the-variants.{Idle, Read1, Read2, Write1, Write2}
 use Rattle.rules.specs.Relays.{relayHears}
 use Rattle.rules.specs.Desks.{isIdle, isFirst, isSecond, full, begins, readAsked, writeAsked, current, viewCame, notesPair, notesAck, takesStamp, completes, counted, pairCame, ackCame, deskHears}
-use Rattle.state.specs.Plans.{noSending, sendingAt}
+use Rattle.state.specs.Plans.{noSending, most, padded, bounded}
 use Rattle.locality.specs.Narrow.{Move, widens}
 use Rattle.locality.specs.Asked.{Few, relayAsked, deskAsked}
 use Rattle.locality.proofs.Wide.{hears-wide, asked-wide}
@@ -25,26 +26,29 @@ use Rattle.locality.proofs.Local.{LocalAnswer, hears-local, asked-local
 -- ---- what goes out
 
 module _ (from : ℕ) where
-  pub none-copied : copies from noSending ≡ []
+  none-copied : copies from noSending ≡ []
   unfolding copies those
   none-copied = refl
 
-  pub two-out : (ss : List Sending) → length ss ≤ 2 → outgoing from ss ≡ copies from (sendingAt ss 0) ++ copies from (sendingAt ss 1)
-  unfolding outgoing
-  two-out [] h = rw none-copied
-  two-out (a ∷ []) h = rw none-copied
-  two-out (a ∷ b ∷ []) h = rw (append-nil (copies from b))
-  two-out (a ∷ b ∷ c ∷ ss) h = absurd (omega arith)
+  padded-out : (n : ℕ) (ss : List Sending) → length ss ≤ n → outgoing from (padded n noSending ss) ≡ outgoing from ss
+  unfolding outgoing padded
+  padded-out zero [] h = refl
+  padded-out zero (s ∷ ss) h = absurd (omega arith)
+  padded-out (suc n) [] h = rw none-copied (padded-out n [] (omega arith))
+  padded-out (suc n) (s ∷ ss) h = ap (λ (ms : List Message). copies from s ++ ms) (padded-out n ss (le-of-suc-le-suc h))
 
--- ---- an answer that sends at most two
+  pub bounded-out : (ss : List Sending) → length ss ≤ most → outgoing from (bounded ss) ≡ outgoing from ss
+  bounded-out ss h = padded-out most ss h
 
-few-does : {A : Type 0} (a : A) (ss : List Sending) (e : Event) → length ss ≤ 2 → Few (does a ss e)
+-- ---- an answer that sends no more
+
+few-does : {A : Type 0} (a : A) (ss : List Sending) (e : Event) → length ss ≤ most → Few (does a ss e)
 unfolding Few
 few-does a ss e h = h
 
 -- ---- relays
 
-few-wide : (r : Relay) (x v : ℕ) (m : Move) (a b : Answer Relay) → a ≡ widens r b → LocalAnswer x v m 2 b → Few a
+few-wide : (r : Relay) (x v : ℕ) (m : Move) (a b : Answer Relay) → a ≡ widens r b → LocalAnswer x v m most b → Few a
 unfolding LocalAnswer Few
 few-wide r x v m a (refused y) e h = rw e tt
 few-wide r x v m a (does n ss y) e h = rw e (h .few)

@@ -9,6 +9,7 @@ use Rattle.rules.specs.declared.Desk.{Desk}
 use Rattle.rules.specs.Relays.{joinAsked, leaveAsked, timerRang}
 use Rattle.rules.specs.Steps.{JOIN, LEAVE, WRITE}
 use Rattle.rules.specs.Desks.{readAsked, writeAsked}
+use Rattle.state.specs.Plans.{most}
 
 -- "1 JOIN relay, 2 LEAVE relay, 3 TIMER relay"
 unfoldable pub relayAsked : ℕ → ℕ → Relay → Answer Relay
@@ -18,7 +19,7 @@ relayAsked kind s r = if eqb kind JOIN then joinAsked s r else if eqb kind LEAVE
 unfoldable pub deskAsked : ℕ → ℕ → Desk → Answer Desk
 deskAsked kind x d = if eqb kind WRITE then writeAsked d x else readAsked d
 
--- it sends at most two things
+-- it sends no more than a plan has room for
 unfoldable pub Few : {A : Type 0} → Answer A → Type 0
 Few (refused x) = Unit {0}
-Few (does a ss e) = length ss ≤ 2
+Few (does a ss e) = length ss ≤ most

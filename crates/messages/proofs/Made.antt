@@ -15,7 +15,7 @@ use Rattle.state.specs.declared.Body.{Body}
 use Rattle.state.specs.declared.Sending.{Sending}
 use Rattle.state.specs.Meaning.{rowOfBody, bodyOf, sendingOf}
 use Rattle.state.specs.Plans.{noSending}
-use Rattle.messages.specs.Made.{saidBy, madeWith, made, sendTo}
+use Rattle.messages.specs.Made.{saidBy, madeWith, sendTo, toNobody}
 
 -- the row holds the sequence that is said
 abbrev pub Says : Sequence → rules.Body → Type 0
@@ -48,5 +48,5 @@ pub sent-says : {r : Sending} {n : ℕ} {b : Body} {x : rules.Body} → r ≡ se
 unfolding sendingOf
 sent-says e f = rw (e, f)
 
-pub nothing-sent : {r : Sending} → r ≡ sendTo 0 (made (rules.ack 0)) → sendingOf r ≡ noSending
+pub nothing-sent : {r : Sending} → r ≡ toNobody → sendingOf r ≡ noSending
 nothing-sent e = sent-says e (made-says (rowOf []) (rules.ack 0) refl none)

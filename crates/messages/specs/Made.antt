@@ -1,5 +1,5 @@
 -- The bodies and sendings that the builders make, field by field. Assumes nothing.
-use mathlib.Core.List.{[]}
+use mathlib.Core.List.{List, []}
 use Prim.Native.Nat.{ℕ}
 use lib.Dec.{leb, ltb}
 use Rattle.views.specs.Row.{rowOf}
@@ -11,6 +11,8 @@ use Rattle.layout.specs.Layout.{proposalKind, installKind}
 use Rattle.layout.specs.Image.{bodyRow}
 use Rattle.state.specs.declared.Body.{Body}
 use Rattle.state.specs.declared.Sending.{Sending}
+use Rattle.state.specs.declared.Sendings.{Sendings}
+use Rattle.state.specs.Plans.{most, padded}
 
 -- of this kind, and it says nothing yet
 unfoldable pub blankOf : ℕ → Body
@@ -32,6 +34,14 @@ made x = madeWith (rowOf []) x
 
 abbrev pub sendTo : ℕ → Body → Sending
 sendTo receivers body = record { body = body; receivers = receivers }
+
+-- nothing is sent
+abbrev pub toNobody : Sending
+toNobody = sendTo 0 (made (rules.ack 0))
+
+-- these, in their order; the rest of the room is sent to nobody
+unfoldable pub allSent : List Sending → Sendings
+allSent ss = record { of = padded most toNobody ss }
 
 -- a set of receivers has the numbers 0 to 15: of any other, nobody
 abbrev pub oneOf : ℕ → ℕ

@@ -1,14 +1,17 @@
 // The messages' bodies, and to whom they are sent. Document 01, "Steps", "Delivery at a relay", "Delivery at a desk".
 ghost use mathlib.Core.Path.{_≡_};
+ghost use mathlib.Core.List.{[], _∷_};
 ghost use Rattle.views.specs.Row.{viewsOf};
 ghost use Rattle.rules.specs.Sets.{members, joined};
 ghost use Rattle.rules.specs.Messages as rules;
 ghost use Rattle.layout.specs.Image.{tryIn};
 ghost use Rattle.state.specs.Meaning.{rowOfBody, bodyOf};
-ghost use Rattle.messages.specs.Made.{blankOf, madeWith, made, sendTo, oneOf};
+ghost use Rattle.messages.specs.Made.{blankOf, madeWith, made, sendTo, toNobody, allSent, oneOf};
 use stamps::Pair;
 use state::Body;
+use state::MOST;
 use state::Sending;
+use state::Sendings;
 use views::Sequence;
 
 fn blank(kind: u8) -> Body
@@ -202,7 +205,7 @@ fn plain_try(b: Body) -> Body
 }
 
 pub fn no_sending() -> Sending
-    ensures { λ r. ⌜ r ≡ sendTo 0 (made (rules.ack 0)) ⌝ }
+    ensures { λ r. ⌜ r ≡ toNobody ⌝ }
 {
     Sending {
         body: ack(0),
@@ -242,4 +245,31 @@ pub fn to_one(s: u8, body: Body) -> Sending
         body: body,
         receivers: 1 << s,
     }
+}
+
+// ---- what a rule sends
+
+pub fn nothing_sent() -> Sendings
+    ensures { λ r. ⌜ r ≡ allSent [] ⌝ }
+{
+    let nobody = no_sending();
+    Sendings { of: [nobody; MOST] }
+}
+
+// One thing first, and then the rest, as far as there is room.
+pub fn sent_before(s: Sending, rest: Sendings) -> Sendings
+    ensures { λ r. ⌜ r ≡ allSent (s ∷ rest .of) ⌝ }
+{
+    let mut of = [s; MOST];
+    for i in 1..MOST {
+        let next = rest.of[i - 1];
+        of[i] = next;
+    }
+    Sendings { of: of }
+}
+
+pub fn one_sent(s: Sending) -> Sendings
+    ensures { λ r. ⌜ r ≡ allSent (s ∷ []) ⌝ }
+{
+    sent_before(s, nothing_sent())
 }

@@ -83,16 +83,14 @@ fn at_generator(p: Part, v: u16, t: Turn) -> Plan
     ensures { λ r. ⌜ ((turn : generators.Turn) → turn .next .view ≡ v → turnOf t ≡ turned turn → planOf r ≡ planned noRelay (rules.atGenerator (partOf p) turn)) ⌝ }
 {
     let next = t.next;
-    let first = t.first;
-    let second = t.second;
+    let sends = t.sends;
     let mut part = p;
     part.generates = true;
     part.generator = next;
     Plan {
         answer: 0,
         part: part,
-        first: first,
-        second: second,
+        sends: sends,
         event: Event::Nothing,
     }
 }

@@ -34,12 +34,10 @@ pub(crate) fn refuses(answer: u8) -> Plan
         transfers: false,
         transfer: super::transfers::fresh(0, 0),
     };
-    let nothing = messages::no_sending();
     Plan {
         answer: answer,
         part: part,
-        first: nothing,
-        second: nothing,
+        sends: messages::nothing_sent(),
         event: Event::Nothing,
     }
 }
@@ -47,12 +45,10 @@ pub(crate) fn refuses(answer: u8) -> Plan
 pub(crate) fn tells(p: Part, event: Event) -> Plan
     ensures { λ r. ⌜ planOf r ≡ planned noRelay (rules.does (partOf p) [] (eventOf event)) ⌝ }
 {
-    let nothing = messages::no_sending();
     Plan {
         answer: 0,
         part: p,
-        first: nothing,
-        second: nothing,
+        sends: messages::nothing_sent(),
         event: event,
     }
 }
@@ -75,13 +71,12 @@ pub(crate) fn sent_first(s: Sending, later: Plan) -> Plan
         → planOf later ≡ planned noRelay (rules.does a ss e) → planOf r ≡ planned noRelay (rules.does a (sendingOf s ∷ ss) e)) ⌝ }
 {
     let part = later.part;
-    let next = later.first;
+    let rest = later.sends;
     let event = later.event;
     Plan {
         answer: 0,
         part: part,
-        first: s,
-        second: next,
+        sends: messages::sent_before(s, rest),
         event: event,
     }
 }

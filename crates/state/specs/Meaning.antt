@@ -17,6 +17,7 @@ use Rattle.state.specs.declared.Part.{Part}
 use Rattle.state.specs.declared.Body.{Body}
 use Rattle.state.specs.declared.Message.{Message}
 use Rattle.state.specs.declared.Sending.{Sending}
+use Rattle.state.specs.declared.Sendings.{Sendings}
 use Rattle.state.specs.declared.Event.{Event}
 use Rattle.state.specs.declared.Event.the-variants.{Nothing, Opened, ReadDone, WriteDone}
 
@@ -83,6 +84,9 @@ messageOf m = record { from = m .from; to = m .to; body = bodyOf (m .body) }
 
 unfoldable pub sendingOf : Sending → rules.Sending
 sendingOf s = record { body = bodyOf (s .body); receivers = s .receivers }
+
+unfoldable pub sendingsOf : Sendings → List rules.Sending
+sendingsOf x = map sendingOf (x .of)
 
 unfoldable pub eventOf : Event → rules.Event
 eventOf Nothing = rules.nothing

@@ -59,6 +59,14 @@ pub struct Sending {
     pub receivers: u16,
 }
 
+// The most that one rule sends.
+pub const MOST: usize = 2;
+
+// What a rule sends, in its order; entries that it does not use are sent to nobody.
+pub struct Sendings {
+    pub of: [Sending; MOST],
+}
+
 pub enum Event {
     Nothing,
     Opened(u16),
@@ -69,8 +77,7 @@ pub enum Event {
 // A generator after a rule, and what it sends.
 pub struct Turn {
     pub next: Generator,
-    pub first: Sending,
-    pub second: Sending,
+    pub sends: Sendings,
 }
 
 // The part of a relay that one rule can see: its head, and at most one generator and one transfer.
@@ -86,15 +93,14 @@ pub struct Part {
 pub struct Plan {
     pub answer: u8,
     pub part: Part,
-    pub first: Sending,
-    pub second: Sending,
+    pub sends: Sendings,
     pub event: Event,
 }
 
-// The same of a desk, which sends at most one thing.
+// The same of a desk.
 pub struct DeskPlan {
     pub answer: u8,
     pub desk: rules::Desk,
-    pub first: Sending,
+    pub sends: Sendings,
     pub event: Event,
 }

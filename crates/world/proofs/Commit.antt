@@ -2,16 +2,16 @@
 use mathlib.Core.Path.{_≡_, refl, sym, ap, _∙_}
 use mathlib.Core.Logic.{_≢_, ⊎-elim}
 use mathlib.Core.Bool.{Bool, true, false, _&&_, and-false}
-use mathlib.Core.List.{List, _++_, append-nil}
+use mathlib.Core.List.{List}
 use Prim.Native.Nat.{ℕ, _+_, _*_, _<_}
 use native.Mathlib.Omega.{arith}
 use lib.Dec.{leb, ltb}
-use lib.ListN.{length, length-append}
+use lib.ListN.{length}
 use Rattle.views.proofs.Truth.{decided}
 use Rattle.rows.specs.Bytes.{placed}
 use Rattle.rows.proofs.Laws.{placed-fits}
 use Rattle.rules.specs.Sets.{if_then_else_}
-use Rattle.rules.specs.Messages.{Sending, copies, outgoing, Refusal, bad-world, bad-step, empty, dead, not-now, not-yet, worn, no-room, number, Answer, refused, does}
+use Rattle.rules.specs.Messages.{Sending, outgoing, Refusal, bad-world, bad-step, empty, dead, not-now, not-yet, worn, no-room, number, Answer, refused, does}
 use Rattle.rules.specs.State.{Relay, noRelay, noDesk, World, relayAt, withRelay, withDesk, withPlaces}
 use Rattle.rules.specs.declared.Desk.{Desk}
 use Rattle.rules.specs.Sending.{placeAll, freeIn}
@@ -19,17 +19,16 @@ use Rattle.rules.specs.Steps.{reports, roomy, relayDoes, deskDoes, freed}
 use Rattle.layout.specs.Layout.{deskBegin}
 use Rattle.layout.specs.Image.{deskBytes, image, worldAt, goodBytes}
 use Rattle.layout.specs.Lent.{kept}
-use Rattle.rules.proofs.Kept.{places-length}
 use Rattle.layout.proofs.Widths.{length-desk, length-image}
 use Rattle.layout.proofs.World.{good-image}
 use Rattle.layout.proofs.Write.{put-desk}
-use Rattle.state.specs.Plans.{Planned, noSending, planned}
+use Rattle.state.specs.Plans.{Planned, planned}
 use Rattle.world.specs.Answer.{accepted}
 use Rattle.locality.specs.Narrow.{widened}
 use Rattle.locality.specs.Asked.{Few}
-use Rattle.world.specs.Commits.{freeRows, receiversBelow, freedAt, delivered, relayLeft, deskLeft}
-use Rattle.locality.proofs.Few.{none-copied, two-out}
-use Rattle.world.proofs.Places.{free-rows, freed-rooms, freed-long, places-append, copies-length}
+use Rattle.world.specs.Commits.{freeRows, freedAt, delivered, relayLeft, deskLeft}
+use Rattle.locality.proofs.Few.{bounded-out}
+use Rattle.world.proofs.Places.{free-rows, freed-rooms, freed-long}
 use Rattle.world.proofs.Good.{shaped}
 
 -- ---- the answer that a plan is for
@@ -53,7 +52,7 @@ pub record Refuses {A : Type 0} (a : Answer A) (plan : Planned A) : Type 0 where
 record Does {A : Type 0} (a : Answer A) (plan : Planned A) : Type 0 where
   sendings : List Sending
   is : a ≡ does (plan .next) sendings (plan .event)
-  out : (from : ℕ) → outgoing from sendings ≡ copies from (plan .first) ++ copies from (plan .second)
+  out : (from : ℕ) → outgoing from sendings ≡ outgoing from (plan .sendings)
 
 module _ {A : Type 0} (blank : A) where
   pub plan-refuses : (a : Answer A) (plan : Planned A) → plan ≡ planned blank a → plan .answer ≢ 0 → Refuses a plan
@@ -64,7 +63,7 @@ module _ {A : Type 0} (blank : A) where
   plan-does : (a : Answer A) (plan : Planned A) → plan ≡ planned blank a → Few a → plan .answer ≡ 0 → Does a plan
   unfolding planned Few
   plan-does (refused x) plan e f z = absurd (some-number x (rw e at z))
-  plan-does (does m ss ev) plan e f z = rw e (record { sendings = ss; is = refl; out = λ from. two-out from ss f })
+  plan-does (does m ss ev) plan e f z = rw e (record { sendings = ss; is = refl; out = λ from. sym (bounded-out from ss f) })
 
 -- ---- the world after it: the delivered place freed, then what is sent
 
@@ -72,20 +71,11 @@ module _ (v : World) (long : length (v .places) ≡ 256) (p from : ℕ) where
   abbrev u : World
   u = freedAt v p
 
-  pub sent-one : (x : Sending) (a b c : List ℕ) → a ≡ image v
+  pub freed-sent : (ss : List Sending) (a b c : List ℕ) → a ≡ image v
       → ((w : World) → length (w .places) ≡ 256 → a ≡ image w → b ≡ image (freedAt w p))
-      → ((w : World) → length (w .places) ≡ 256 → b ≡ image w → c ≡ image (withPlaces w (placeAll (copies from x) (w .places))))
-      → c ≡ image (withPlaces u (placeAll (copies from x) (u .places)))
-  sent-one x a b c e f g = g u (freed-long v long p) (f v long e)
-
-  pub sent-two : (x y : Sending) (a b c d : List ℕ) → a ≡ image v
-      → ((w : World) → length (w .places) ≡ 256 → a ≡ image w → b ≡ image (freedAt w p))
-      → ((w : World) → length (w .places) ≡ 256 → b ≡ image w → c ≡ image (withPlaces w (placeAll (copies from x) (w .places))))
-      → ((w : World) → length (w .places) ≡ 256 → c ≡ image w → d ≡ image (withPlaces w (placeAll (copies from y) (w .places))))
-      → d ≡ image (withPlaces u (placeAll (copies from x ++ copies from y) (u .places)))
-  sent-two x y a b c d e f g h =
-      h (withPlaces u (placeAll (copies from x) (u .places))) (places-length (copies from x) (u .places) ∙ freed-long v long p) (sent-one x a b c e f g)
-      ∙ rw (places-append (copies from x) (copies from y) (u .places))
+      → ((w : World) → length (w .places) ≡ 256 → b ≡ image w → c ≡ image (withPlaces w (placeAll (outgoing from ss) (w .places))))
+      → c ≡ image (withPlaces u (placeAll (outgoing from ss) (u .places)))
+  freed-sent ss a b c e f g = g u (freed-long v long p) (f v long e)
 
 relay-freed : (w : World) (p s : ℕ) (r : Relay) → freedAt (withRelay w s r) p ≡ withRelay (freedAt w p) s r
 unfolding freedAt freed
@@ -97,9 +87,9 @@ desk-freed w p n d = ⊎-elim (λ t. rw t) (λ t. rw t) (decided (ltb p 256))
 
 -- ---- NO ROOM for messages
 
--- a plan's two sendings find room
-abbrev pub rooms-for : {A : Type 0} → List ℕ → ℕ → Planned A → Bool
-rooms-for b p plan = leb (length (receiversBelow (plan .first .receivers) 12) + length (receiversBelow (plan .second .receivers) 12)) (freeRows b 256 + (if ltb p 256 then 1 else 0))
+-- what goes out finds room
+abbrev pub rooms-for : List ℕ → ℕ → ℕ → List Sending → Bool
+rooms-for b p from ss = leb (length (outgoing from ss)) (freeRows b 256 + (if ltb p 256 then 1 else 0))
 
 module _ (b : List ℕ) (good : goodBytes b ≡ true) (p : ℕ) (d : delivered (worldAt b) p ≡ true) where
   rooms : freeRows b 256 + (if ltb p 256 then 1 else 0) ≡ freeIn (freedAt (worldAt b) p .places)
@@ -108,9 +98,9 @@ module _ (b : List ℕ) (good : goodBytes b ≡ true) (p : ℕ) (d : delivered (
       ap (λ (l : List ℕ). freeRows l 256 + (if ltb p 256 then 1 else 0)) (sym (good-image b good))
       ∙ rw (free-rows (worldAt b) long) (sym (freed-rooms (worldAt b) long p d))
 
-  room-of : {A : Type 0} (plan : Planned A) (from : ℕ) → roomy (freedAt (worldAt b) p) (copies from (plan .first) ++ copies from (plan .second)) ≡ rooms-for b p plan
+  room-of : (from : ℕ) (ss : List Sending) → roomy (freedAt (worldAt b) p) (outgoing from ss) ≡ rooms-for b p from ss
   unfolding roomy
-  room-of plan from = rw (rooms, length-append (copies from (plan .first)) (copies from (plan .second)), copies-length from (plan .first), copies-length from (plan .second))
+  room-of from ss = rw rooms
 
 -- ---- a relay, and a desk: `plan` is the one that the answer a asks for
 
@@ -128,19 +118,19 @@ module _ (b : List ℕ) (good : goodBytes b ≡ true) (p s k : ℕ) (a : Answer 
   to-do : Does a plan
   to-do = plan-does noRelay a plan e few z
 
-  pub relay-crowded : rooms-for b p plan ≡ false → kept no-room b ≡ relayLeft b k p s a
+  pub relay-crowded : rooms-for b p s (plan .sendings) ≡ false → kept no-room b ≡ relayLeft b k p s a
   unfolding relayLeft relayDoes
-  relay-crowded r = rw (to-do .is, to-do .out s, room-of b good p d plan s ∙ r)
+  relay-crowded r = rw (to-do .is, to-do .out s, room-of b good p d s (plan .sendings) ∙ r)
 
   pub relay-unseated : seats ≡ false → kept no-room b ≡ relayLeft b k p s a
   unfolding relayLeft relayDoes
   relay-unseated r = rw (to-do .is, r, and-false (roomy (freedAt w p) (outgoing s (to-do .sendings))))
 
-  pub relay-done : rooms-for b p plan ≡ true → seats ≡ true → (l : List ℕ)
-      → l ≡ image (withPlaces (freedAt (withRelay w s made) p) (placeAll (copies s (plan .first) ++ copies s (plan .second)) (freedAt (withRelay w s made) p .places)))
+  pub relay-done : rooms-for b p s (plan .sendings) ≡ true → seats ≡ true → (l : List ℕ)
+      → l ≡ image (withPlaces (freedAt (withRelay w s made) p) (placeAll (outgoing s (plan .sendings)) (freedAt (withRelay w s made) p .places)))
       → accepted (reports (plan .event) s) l ≡ relayLeft b k p s a
   unfolding relayLeft relayDoes
-  relay-done r t l q = rw (to-do .is, to-do .out s, room-of b good p d plan s ∙ r, t, q, relay-freed w p s made)
+  relay-done r t l q = rw (to-do .is, to-do .out s, room-of b good p d s (plan .sendings) ∙ r, t, q, relay-freed w p s made)
 
 module _ (b : List ℕ) (good : goodBytes b ≡ true) (n : ℕ) where
   pub desk-put : n < 4 → (d : Desk) → placed b (deskBegin n) (deskBytes d) ≡ image (withDesk (worldAt b) n d)
@@ -158,14 +148,12 @@ module _ (b : List ℕ) (good : goodBytes b ≡ true) (p n k : ℕ) (a : Answer 
   asked : Does a plan
   asked = plan-does noDesk a plan e few z
 
-  pub desk-crowded : rooms-for b p plan ≡ false → kept no-room b ≡ deskLeft b k p n a
+  pub desk-crowded : rooms-for b p (8 + n) (plan .sendings) ≡ false → kept no-room b ≡ deskLeft b k p n a
   unfolding deskLeft deskDoes
-  desk-crowded r = rw (asked .is, asked .out (8 + n), room-of b good p d plan (8 + n) ∙ r)
+  desk-crowded r = rw (asked .is, asked .out (8 + n), room-of b good p d (8 + n) (plan .sendings) ∙ r)
 
-  -- it sends one thing
-  pub desk-done : plan .second ≡ noSending → rooms-for b p plan ≡ true → (l : List ℕ)
-      → l ≡ image (withPlaces (freedAt (withDesk v n (plan .next)) p) (placeAll (copies (8 + n) (plan .first)) (freedAt (withDesk v n (plan .next)) p .places)))
+  pub desk-done : rooms-for b p (8 + n) (plan .sendings) ≡ true → (l : List ℕ)
+      → let u = freedAt (withDesk v n (plan .next)) p in l ≡ image (withPlaces u (placeAll (outgoing (8 + n) (plan .sendings)) (u .places)))
       → accepted (reports (plan .event) n) l ≡ deskLeft b k p n a
   unfolding deskLeft deskDoes
-  desk-done o r l q =
-      rw (asked .is, asked .out (8 + n), room-of b good p d plan (8 + n) ∙ r, o, none-copied (8 + n), append-nil (copies (8 + n) (plan .first)), q, desk-freed v p n (plan .next))
+  desk-done r l q = rw (asked .is, asked .out (8 + n), room-of b good p d (8 + n) (plan .sendings) ∙ r, q, desk-freed v p n (plan .next))

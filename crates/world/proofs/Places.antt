@@ -2,7 +2,7 @@
 use mathlib.Core.Path.{_≡_, refl, sym, ap, _∙_}
 use mathlib.Core.Logic.{_≢_, ⊎-elim}
 use mathlib.Core.Bool.{true, false}
-use mathlib.Core.List.{List, [], _∷_, _++_, map, map-append}
+use mathlib.Core.List.{List, [], _∷_, _++_, map, map-append, append-nil, append-assoc}
 use Prim.Native.Nat.{ℕ, zero, suc, _+_, _*_, _≤_, _<_, suc-le-suc}
 use native.Mathlib.Nat.{le-of-suc-le-suc}
 use native.Mathlib.Numerals.{add-one}
@@ -10,14 +10,14 @@ use native.Mathlib.Decide.{ℕ-discrete}
 use native.Mathlib.Omega.{arith}
 use lib.Dec.{eqb, leb, ltb}
 use lib.ListN.{List·getD-append, length, getD, set, take, drop, length-set, length-append, length-map}
-use lib.Seq.{length-take-le, getD-take}
+use lib.Seq.{length-take-le, getD-take, take-suc, take-all}
 use borrow.Author.Tests.{leb-true, leb-false, ltb-true, ltb-false}
 use Rattle.views.proofs.Truth.{decided, contrary}
 use Rattle.rows.specs.Bytes.{placed, splice, tab, cat, zeros}
 use Rattle.rows.proofs.Laws.{Holds, holds-byte, placed-fits, placed-not}
 use Rattle.rows.proofs.Change.{Changed, changed-first, changed-more, changed-set}
 use Rattle.rules.specs.Sets.{if_then_else_, bit, those}
-use Rattle.rules.specs.Messages.{Message, Sending, copies}
+use Rattle.rules.specs.Messages.{Message, Sending, copies, outgoing}
 use Rattle.rules.specs.State.{Place, free, waiting, World, placeAt, withPlaces}
 use Rattle.rules.specs.Sending.{place, placeAll, freeIn}
 use Rattle.rules.specs.Steps.{freed}
@@ -30,6 +30,8 @@ use Rattle.layout.proofs.Rows.{row-of}
 use Rattle.layout.proofs.Read.{holds-place}
 use Rattle.layout.proofs.Write.{put-place}
 use Rattle.layout.proofs.Zeros.{place-zeros}
+use Rattle.state.specs.declared.Sending as code
+use Rattle.state.specs.Meaning.{sendingOf}
 use Rattle.world.specs.Commits.{First, freeRow, freeRows, TakenTo, receiversBelow, freedAt, message, isWaiting, delivered}
 use Rattle.world.proofs.Lists.{those-more, those-same}
 
@@ -246,33 +248,83 @@ no-copies from x e = all-copies from x ∙ rw (e, nobody)
     nobody : receiversBelow 0 12 ≡ []
     nobody = unfold receiversBelow tab those in refl
 
+-- what goes out of the first i of these sendings
+unfoldable pub outTo : ℕ → List code.Sending → ℕ → List Message
+outTo from xs i = outgoing from (map sendingOf (take i xs))
+
+out-append : (from : ℕ) (ss ts : List Sending) → outgoing from (ss ++ ts) ≡ outgoing from ss ++ outgoing from ts
+unfolding outgoing
+out-append from [] ts = refl
+out-append from (s ∷ ss) ts = rw (out-append from ss ts) (sym (append-assoc (copies from s) (outgoing from ss) (outgoing from ts)))
+
+out-one : (from : ℕ) (s : Sending) → outgoing from (s ∷ []) ≡ copies from s
+unfolding outgoing
+out-one from s = append-nil (copies from s)
+
+module _ (from : ℕ) (xs : List code.Sending) where
+  pub out-none : outTo from xs 0 ≡ []
+  unfolding outTo outgoing
+  out-none = refl
+
+  pub out-more : (i : ℕ) (d : code.Sending) → i < length xs → outTo from xs (i + 1) ≡ outTo from xs i ++ copies from (sendingOf (getD xs i d))
+  unfolding outTo
+  out-more i d h =
+      let ss : List Sending = map sendingOf (take i xs) in
+      let s : Sending = sendingOf (getD xs i d) in
+      rw (add-one, take-suc xs i d h, map-append sendingOf (take i xs) (getD xs i d ∷ []), out-append from ss (s ∷ []), out-one from s)
+
+  -- counted
+  pub out-counted : (i : ℕ) (d : code.Sending) → i < length xs
+      → length (outTo from xs (i + 1)) ≡ length (outTo from xs i) + length (receiversBelow (getD xs i d .receivers) 12)
+  unfolding sendingOf
+  out-counted i d h =
+      let s : Sending = sendingOf (getD xs i d) in
+      rw (out-more i d h, length-append (outTo from xs i) (copies from s), copies-length from s)
+
+  pub out-all : (i : ℕ) → length xs ≤ i → outTo from xs i ≡ outgoing from (map sendingOf xs)
+  unfolding outTo
+  out-all i h = rw (take-all i xs h)
+
+-- a buffer s₀ into which these messages are placed
+pub record Placed (s₀ : List ℕ) (ms : List Message) (s : List ℕ) : Type 0 where
+  pub long : length s ≡ length s₀
+  pub is : (w : World) → length (w .places) ≡ 256 → s₀ ≡ image w → s ≡ image (withPlaces w (placeAll ms (w .places)))
+
+pub placed-none : {s : List ℕ} {ms : List Message} → ms ≡ [] → Placed s ms s
+unfolding placeAll
+placed-none z = record { long = refl; is = λ w l e. e ∙ rw z }
+
+pub placed-more : {s₀ s : List ℕ} {ms : List Message} → Placed s₀ ms s
+    → (ns : List Message) {all : List Message} → all ≡ ms ++ ns → (t : List ℕ) → length t ≡ length s
+    → ((w : World) → length (w .places) ≡ 256 → s ≡ image w → t ≡ image (withPlaces w (placeAll ns (w .places)))) → Placed s₀ all t
+placed-more {s₀} {s} {ms} h ns z t k f =
+    record {
+      long = k ∙ h .long;
+      is = λ w l q. f (withPlaces w (placeAll ms (w .places))) (places-length ms (w .places) ∙ l) (h .is w l q) ∙ rw (z, places-append ms ns (w .places));
+    }
+
 -- a buffer s₀ into which the copies below n are sent
 pub record Sent (s₀ : List ℕ) (from : ℕ) (x : Sending) (s : List ℕ) (n : ℕ) : Type 0 where
   pub within : n ≤ 12
-  pub long : length s ≡ length s₀
-  pub is : (w : World) → length (w .places) ≡ 256 → s₀ ≡ image w → s ≡ image (withPlaces w (placeAll (copiesBelow from x n) (w .places)))
+  pub done : Placed s₀ (copiesBelow from x n) s
 
 module _ {s₀ : List ℕ} {from : ℕ} {x : Sending} where
   pub sent-none : Sent s₀ from x s₀ 0
-  unfolding copiesBelow placeAll
-  sent-none = record { within = omega arith; long = refl; is = λ w l e. e ∙ rw (receiver-none (x .receivers) 0) }
+  unfolding copiesBelow
+  sent-none = record { within = omega arith; done = placed-none (rw (receiver-none (x .receivers) 0)) }
 
   pub sent-same : {s : List ℕ} {n : ℕ} → Sent s₀ from x s n → n < 12 → bit (x .receivers) n ≡ false → Sent s₀ from x s (n + 1)
   unfolding copiesBelow
-  sent-same {s} {n} h b e = record { within = omega arith; long = h .long; is = λ w l q. h .is w l q ∙ rw (receiver-same (x .receivers) n e) }
+  sent-same {s} {n} h b e = record { within = omega arith; done = rw (receiver-same (x .receivers) n e) (h .done) }
 
   pub sent-more : {s : List ℕ} {n : ℕ} (t : List ℕ) → Sent s₀ from x s n → n < 12 → bit (x .receivers) n ≡ true → length t ≡ length s
       → ((w : World) → length (w .places) ≡ 256 → s ≡ image w → t ≡ image (withPlaces w (place (message from (x .body) n) (w .places)))) → Sent s₀ from x t (n + 1)
-  sent-more {s} {n} t h b e k f = record { within = omega arith; long = k ∙ h .long; is = go }
+  unfolding placeAll
+  sent-more {s} {n} t h b e k f = record { within = omega arith; done = placed-more (h .done) (message from (x .body) n ∷ []) more t k f }
     where
       more : copiesBelow from x (n + 1) ≡ copiesBelow from x n ++ (message from (x .body) n ∷ [])
       more = unfold copiesBelow in (rw (receiver-more (x .receivers) n e) (map-append (message from (x .body)) (receiversBelow (x .receivers) n) (n ∷ [])))
 
-      go : (w : World) → length (w .places) ≡ 256 → s₀ ≡ image w → t ≡ image (withPlaces w (placeAll (copiesBelow from x (n + 1)) (w .places)))
-      go w l q =
-          f (withPlaces w (placeAll (copiesBelow from x n) (w .places))) (places-length (copiesBelow from x n) (w .places) ∙ l) (h .is w l q)
-          ∙ rw (more, places-append (copiesBelow from x n) (message from (x .body) n ∷ []) (w .places)) (unfold placeAll in refl)
-
   pub sent-all : {s : List ℕ} {n : ℕ} → Sent s₀ from x s n → 12 ≤ n
       → (w : World) → length (w .places) ≡ 256 → s₀ ≡ image w → s ≡ image (withPlaces w (placeAll (copies from x) (w .places)))
-  sent-all {s} {n} h e w l q = let z : n ≡ 12 = omega (arith, h .within) in rw (all-copies from x, ← z) (h .is w l q)
+  sent-all {s} {n} h e w l q = let z : n ≡ 12 = omega (arith, h .within) in rw (all-copies from x, ← z) (h .done .is w l q)

@@ -96,13 +96,12 @@ fn relay_commits(w: &mut [u8], s: u8, p: usize, plan: Plan) -> Answer
 {
     let answer = plan.answer;
     let part = plan.part;
-    let first = plan.first;
-    let second = plan.second;
+    let sends = plan.sends;
     let event = plan.event;
     if answer != 0 {
         return refuses(answer);
     }
-    if !reads::has_room(w, p, first.receivers, second.receivers) {
+    if !reads::has_room(w, p, sends) {
         return refuses(rules::NO_ROOM);
     }
     if !reads::has_seats(w, s, part) {
@@ -110,8 +109,7 @@ fn relay_commits(w: &mut [u8], s: u8, p: usize, plan: Plan) -> Answer
     }
     writes::put_part(w, s, part);
     writes::free(w, p);
-    writes::send(w, s, first);
-    writes::send(w, s, second);
+    writes::send_all(w, s, sends);
     tells(event, s)
 }
 
@@ -123,17 +121,17 @@ fn desk_commits(w: &mut [u8], n: u8, p: usize, plan: DeskPlan) -> Answer
 {
     let answer = plan.answer;
     let desk = plan.desk;
-    let first = plan.first;
+    let sends = plan.sends;
     let event = plan.event;
     if answer != 0 {
         return refuses(answer);
     }
-    if !reads::has_room(w, p, first.receivers, 0) {
+    if !reads::has_room(w, p, sends) {
         return refuses(rules::NO_ROOM);
     }
     image::put_desk(w, WORLD_DESKS + n as usize * DESK_WIDTH, desk);
     writes::free(w, p);
-    writes::send(w, 8 + n, first);
+    writes::send_all(w, 8 + n, sends);
     tells(event, n)
 }
 

@@ -1,20 +1,23 @@
 // What a step looks up in the lent buffer.
 ghost use mathlib.Core.Path.{_≡_};
 ghost use mathlib.Core.Bool.{true, _&&_, _||_, not};
-ghost use Prim.Native.Nat.{_+_, _*_, _≤_, _<_};
+ghost use Prim.Native.Nat.{ℕ, _+_, _*_, _≤_, _<_};
 ghost use lib.Dec.{eqb, leb, ltb};
 ghost use lib.ListN.{length};
 ghost use Rattle.rows.specs.Bytes.{u16At};
 ghost use Rattle.rules.specs.Sets.{if_then_else_};
+ghost use Rattle.rules.specs.Messages as rules;
 ghost use Rattle.rules.specs.State.{relayAt};
 ghost use Rattle.rules.specs.Steps.{aliveIn};
 ghost use Rattle.layout.specs.Layout.{transferNew};
 ghost use Rattle.layout.specs.Image.{worldAt, goodBytes, generatorAt};
-ghost use Rattle.state.specs.Meaning.{partOf, generatorOf};
+ghost use Rattle.state.specs.Meaning.{partOf, generatorOf, sendingsOf};
 ghost use Rattle.locality.specs.Narrow.{move, narrow, widened};
 ghost use Rattle.world.specs.Commits.{First, rowOf, freeRow, TakenTo, freeRows, endsView, endsMove, receiversBelow};
 use state::Generator;
+use state::MOST;
 use state::Part;
+use state::Sendings;
 
 // ---- places
 
@@ -85,11 +88,23 @@ fn has_free(w: &[u8], n: usize) -> bool
     n <= seen
 }
 
-// NO ROOM: "the step needs more messages [..] than are free at its begin, its own delivered place counted as free"
-pub(crate) fn has_room(w: &[u8], p: usize, first: u16, second: u16) -> bool
-    ensures { λ r. ⌜ r ≡ leb (length (receiversBelow first 12) + length (receiversBelow second 12)) (freeRows (now (w .entry)) 256 + (if ltb p 256 then 1 else 0)) ⌝ }
+// How many messages go out, whoever sends these.
+fn outgoing(x: Sendings) -> usize
+    ensures { λ r. ⌜ ((from : ℕ) → r ≡ length (rules.outgoing from (sendingsOf x))) ⌝ }
 {
-    let needed = receivers(first) + receivers(second);
+    let mut n = 0;
+    for i in 0..MOST {
+        let s = x.of[i];
+        n += receivers(s.receivers);
+    }
+    n
+}
+
+// NO ROOM: "the step needs more messages [..] than are free at its begin, its own delivered place counted as free"
+pub(crate) fn has_room(w: &[u8], p: usize, x: Sendings) -> bool
+    ensures { λ r. ⌜ ((from : ℕ) → r ≡ leb (length (rules.outgoing from (sendingsOf x))) (freeRows (now (w .entry)) 256 + (if ltb p 256 then 1 else 0))) ⌝ }
+{
+    let needed = outgoing(x);
     let own = delivered(p);
     if needed <= own {
         return true;

@@ -6,19 +6,21 @@ ghost use Prim.Native.Nat.{ℕ, _+_, _≤_, _<_};
 ghost use lib.Dec.{leb};
 ghost use lib.ListN.{length, getD};
 ghost use Rattle.rows.specs.Bytes.{placed, table};
-ghost use Rattle.rules.specs.Messages.{copies};
+ghost use Rattle.rules.specs.Messages.{copies, outgoing};
 ghost use Rattle.rules.specs.State.{World, withPlaces, relayAt, withRelay, withTransfers};
 ghost use Rattle.rules.specs.Sending as rules;
 ghost use Rattle.rules.specs.Relays.{freshTransfer};
 ghost use Rattle.layout.specs.Layout.{transfersWidth};
 ghost use Rattle.layout.specs.Image.{transferBytes, image, worldAt, goodBytes};
-ghost use Rattle.state.specs.Meaning.{transferOf, partOf, bodyOf, sendingOf};
+ghost use Rattle.state.specs.Meaning.{transferOf, partOf, bodyOf, sendingOf, sendingsOf};
 ghost use Rattle.locality.specs.Narrow.{widened};
 ghost use Rattle.world.specs.Commits.{TakenTo, freedAt, keptRows, message};
 use state::Body;
+use state::MOST;
 use state::Message;
 use state::Part;
 use state::Sending;
+use state::Sendings;
 use state::Transfer;
 
 // ---- places
@@ -59,7 +61,7 @@ fn place(w: &mut [u8], low: usize, from: u8, to: u8, body: Body) -> usize
 }
 
 // "each to its receivers in ascending order"; each search goes on where the last one ended.
-pub(crate) fn send(w: &mut [u8], from: u8, x: Sending)
+fn send(w: &mut [u8], from: u8, x: Sending)
     ensures { λ _. ⌜ ((W : World) → length (W .places) ≡ 256 → now (w .entry) ≡ image W
         → now (w .exit) ≡ image (withPlaces W (rules.placeAll (copies from (sendingOf x)) (W .places)))) ⌝ }
 {
@@ -73,6 +75,17 @@ pub(crate) fn send(w: &mut [u8], from: u8, x: Sending)
         if (m >> n) % 2 == 1 {
             low = place(w, low, from, n, body);
         }
+    }
+}
+
+// One sending after the other, in the order of the rule.
+pub(crate) fn send_all(w: &mut [u8], from: u8, x: Sendings)
+    ensures { λ _. ⌜ ((W : World) → length (W .places) ≡ 256 → now (w .entry) ≡ image W
+        → now (w .exit) ≡ image (withPlaces W (rules.placeAll (outgoing from (sendingsOf x)) (W .places)))) ⌝ }
+{
+    for i in 0..MOST {
+        let s = x.of[i];
+        send(w, from, s);
     }
 }
 

@@ -6,6 +6,7 @@ use Rattle.rules.specs.Desks.{begins, begun}
 use Rattle.state.specs.Meaning.{eventOf}
 use Rattle.state.specs.Plans.{planned, deskPlanOf}
 use Rattle.messages.proofs.Made.{sent-says}
+use Rattle.messages.proofs.Sent.{all-means}
 use Rattle.desk.proofs.begins.Statement.{statement}
 use Rattle.desk.proofs.begins.Tie as tie
 
@@ -16,8 +17,10 @@ returns c = rw (le-leb _ _ (c .before .if1 .taken)) (c .refuses .ensures worn re
 returns-2 : tie.Need-returns-2
 unfolding begins begun planned deskPlanOf eventOf
 returns-2 c =
-    let c3 = c .before .before .before in
-    rw (sent-says (c .to-members .ensures) (c .before .asks .ensures), c .before .before .begun .ensures, lt-leb _ _ (c3 .if1 .left))
+    let to = c .before in
+    let begun = to .before .before in
+    let sent = sent-says (to .to-members .ensures) (to .before .asks .ensures) in
+    rw (all-means _ (c .one-sent .ensures), sent, begun .begun .ensures, lt-leb _ _ (begun .before .if1 .left))
 
 pub begins-spec : {M : Type 1} → statement M
-begins-spec = tie.close (tie.spec (λ c κs. tt) returns (λ c κs. tt) (λ c κs. tt) (λ c κs. tt) returns-2)
+begins-spec = tie.close (tie.spec (λ c κs. tt) returns (λ c κs. tt) (λ c κs. tt) (λ c κs. tt) (λ c κs. tt) returns-2)

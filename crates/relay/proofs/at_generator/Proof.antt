@@ -12,15 +12,14 @@ use Rattle.relay.proofs.at_generator.Tie as tie
 returns : tie.Need-returns
 unfolding planOf planned partOf relayOf atGenerator withGenerators eventOf turnOf turned
 returns c =
-    let c3 = c .before .before .before in
+    let c2 = c .before .before in
     λ turn own e.
-    let p = c3 .args .p in
-    rw (put-generator (p .generates) (generatorOf (p .generator)) (turn .next) (c3 .args .v) (c3 .pre) own)
+    let p = c2 .args .p in
+    rw (put-generator (p .generates) (generatorOf (p .generator)) (turn .next) (c2 .args .v) (c2 .pre) own)
     (λ i. record {
       answer = 0;
       next = relayOf (p .head) (e i .next ∷ []) (asList (p .transfers) (transferOf (p .transfer)));
-      first = e i .first;
-      second = e i .second;
+      sendings = e i .sendings;
       event = nothing;
     })
 

@@ -36,4 +36,4 @@ unfolding sendingOf
 returns-2 c = sent-all (c .before .loop .inv .0) (c .loop-test .left)
 
 pub send-spec : {M : Type 1} → statement M
-send-spec = tie.close (tie.spec Inv-loop μ-loop returns (λ c. (sent-none, taken-none)) (λ c. search needs) (λ c. omega arith) (λ c κs. c .before .before .before .loop .inv .1) (λ c. search needs) (λ c. search needs) loop-again (λ c. c .before .loop .inv .0 .long) returns-2)
+send-spec = tie.close (tie.spec Inv-loop μ-loop returns (λ c. (sent-none, taken-none)) (λ c. search needs) (λ c. omega arith) (λ c κs. c .before .before .before .loop .inv .1) (λ c. search needs) (λ c. search needs) loop-again (λ c. c .before .loop .inv .0 .done .long) returns-2)
