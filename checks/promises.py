@@ -258,10 +258,18 @@ def bare(text):
     return how, re.sub(r"<'\w+>", '', text[lent.end():] if lent else text)
 
 
+# The length of an array: a number, or a constant of the same source.
+def array_length(path, text):
+    named = re.search(rf'\bconst {text}: usize = (\d+);', code(path))
+    if not named and not text.isdigit():
+        raise Unread(f'{path}: the length {text} of an array is not read')
+    return named[1] if named else text
+
+
 # The test of Typed.antt that a type's values pass, as its name and what it is applied to; none where every value passes.
 def test(path, text, of):
     how, kind = bare(text)
-    array = re.fullmatch(r'\[(.+); (\d+)\]', kind)
+    array = re.fullmatch(r'\[(.+); (\w+)\]', kind)
     if kind == 'bool':
         return None
     if kind in NUMBERS:
@@ -269,7 +277,7 @@ def test(path, text, of):
     if kind in ('[u8]', '[u32]'):
         return f'in-{"bytes" if kind == "[u8]" else "u32s"} ' + (f'(now {of})' if how == 'held' else of)
     if array:
-        return f'array {array[2]} {test(path, array[1], "").strip()} {of}'
+        return f'array {array_length(path, array[2])} {test(path, array[1], "").strip()} {of}'
     full = type_path(path, kind)
     return f'in-{kind.split("::")[-1]} {of}' if tests_of(full) != [] else None
 

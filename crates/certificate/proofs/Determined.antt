@@ -44,9 +44,11 @@ use Rattle.state.specs.declared.Head.{Head}
 use Rattle.state.specs.declared.Part.{Part}
 use Rattle.state.specs.declared.Body.{Body}
 use Rattle.state.specs.declared.Message.{Message}
+use Rattle.state.specs.declared.Sending.{Sending}
+use Rattle.state.specs.declared.Sendings.{Sendings}
 use Rattle.state.specs.Meaning.{notesOf, generatorOf, transferOf, relayOf, partOf, bodyOf}
 use Rattle.state.specs.Plans.{turnOf, turned, planOf, deskPlanOf, planned}
-use Rattle.messages.specs.Made.{madeWith, made, sendTo, oneOf}
+use Rattle.messages.specs.Made.{madeWith, made, sendTo, toNobody, allSent, oneOf}
 use Rattle.generator.specs.Heard.{heardInRow}
 use Rattle.generator.specs.Rows.{freshRow, notedRow}
 use Rattle.relay.specs.Fitting.{joinAnswer, timerAnswer, hearsAnswer}
@@ -254,8 +256,8 @@ messages-ack tries = by-equation (made (rules.ack tries))
 pub messages-plain : (b : Body) → Determined (λ r. r ≡ madeWith (b .sequence) (bodyOf b))
 messages-plain b = by-equation (madeWith (b .sequence) (bodyOf b))
 
-pub messages-no-sending : Determined (λ r. r ≡ sendTo 0 (made (rules.ack 0)))
-messages-no-sending = by-equation (sendTo 0 (made (rules.ack 0)))
+pub messages-no-sending : Determined (λ r. r ≡ toNobody)
+messages-no-sending = by-equation toNobody
 
 pub messages-to-members : (v : ℕ) (body : Body) → Determined (λ r. r ≡ sendTo (members v) body)
 messages-to-members v body = by-equation (sendTo (members v) body)
@@ -265,6 +267,15 @@ messages-to-both v w body = by-equation (sendTo (joined (members v) (members w))
 
 pub messages-to-one : (s : ℕ) (body : Body) → Determined (λ r. r ≡ sendTo (oneOf s) body)
 messages-to-one s body = by-equation (sendTo (oneOf s) body)
+
+pub messages-nothing-sent : Determined (λ r. r ≡ allSent [])
+messages-nothing-sent = by-equation (allSent [])
+
+pub messages-sent-before : (s : Sending) (rest : Sendings) → Determined (λ r. r ≡ allSent (s ∷ rest .of))
+messages-sent-before s rest = by-equation (allSent (s ∷ rest .of))
+
+pub messages-one-sent : (s : Sending) → Determined (λ r. r ≡ allSent (s ∷ []))
+messages-one-sent s = by-equation (allSent (s ∷ []))
 
 -- ---- generator
 

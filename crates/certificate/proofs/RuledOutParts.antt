@@ -32,9 +32,10 @@ use Rattle.state.specs.declared.Generator.{Generator}
 use Rattle.state.specs.declared.Part.{Part}
 use Rattle.state.specs.declared.Body.{Body}
 use Rattle.state.specs.declared.Sending.{Sending}
+use Rattle.state.specs.declared.Sendings.{Sendings}
 use Rattle.state.specs.Meaning.{notesOf, generatorOf, relayOf, partOf, bodyOf}
-use Rattle.state.specs.Plans.{Turned, turned, Planned, planned}
-use Rattle.messages.specs.Made.{blankOf, madeWith, made, sendTo, oneOf}
+use Rattle.state.specs.Plans.{noSending, padded, Turned, turned, Planned, planned}
+use Rattle.messages.specs.Made.{blankOf, madeWith, made, sendTo, toNobody, allSent, oneOf}
 use Rattle.generator.specs.Heard.{mergedInRow, hearsInRow, heardInRow}
 use Rattle.generator.specs.Rows.{noNotes, freshRow, notedRow}
 use Rattle.relay.specs.Fitting.{fitting, joinAnswer, timerAnswer, hearsAnswer}
@@ -42,6 +43,7 @@ use Rattle.relay.specs.Fitting as fit
 use Rattle.desk.specs.Replies.{replyNoted}
 use Rattle.certificate.proofs.Differ.{differ, itself, truth}
 use Rattle.certificate.proofs.Typed.{in-u16, in-u32, in-u8, in-Body, in-Desk, in-Generator, in-Notes, in-Pair, in-Part, in-Sequence}
+use Rattle.certificate.proofs.Typed.{in-Sending, in-Sendings}
 
 -- ---- messages; the fields of a body, and a body with another
 
@@ -194,11 +196,11 @@ messages-plain-emptied p = differ kind (p unclean tt) tt
 abbrev receivers : Sending → ℕ
 receivers s = s .receivers
 
-pub messages-no-sending-of-a-view : ¬ (sendTo 0 (made (rules.view 0)) ≡ sendTo 0 (made (rules.ack 0)))
+pub messages-no-sending-of-a-view : ¬ (sendTo 0 (made (rules.view 0)) ≡ toNobody)
 unfolding madeWith
 messages-no-sending-of-a-view p = differ (λ (s : Sending). kind (s .body)) p tt
 
-pub messages-no-sending-to-relay-0 : ¬ (sendTo (oneOf 0) (made (rules.ack 0)) ≡ sendTo 0 (made (rules.ack 0)))
+pub messages-no-sending-to-relay-0 : ¬ (sendTo (oneOf 0) (made (rules.ack 0)) ≡ toNobody)
 messages-no-sending-to-relay-0 p = differ receivers p tt
 
 pub messages-to-members-who-left-too : ¬ ((v : ℕ) (body : Body) → T (in-u16 v) → T (in-Body body) → sendTo (v % 256) body ≡ sendTo (members v) body)
@@ -231,6 +233,38 @@ messages-to-one-number-as-a-set p = differ receivers (p 0 (blankOf 11) tt tt) tt
 pub messages-to-one-to-all : ¬ ((s : ℕ) (body : Body) → T (in-u8 s) → T (in-Body body) → sendTo (members 255) body ≡ sendTo (oneOf s) body)
 unfolding rowOf blankOf
 messages-to-one-to-all p = differ receivers (p 0 (blankOf 11) tt tt) tt
+
+-- to whom the entry i of these is sent
+abbrev sentAt : ℕ → Sendings → ℕ
+sentAt i x = getD (x .of) i toNobody .receivers
+
+abbrev toFirst : Sending
+toFirst = sendTo 1 (blankOf 11)
+
+pub messages-nothing-sent-but-to-relay-0 : ¬ (allSent (sendTo (oneOf 0) (made (rules.ack 0)) ∷ []) ≡ allSent [])
+unfolding allSent padded
+messages-nothing-sent-but-to-relay-0 p = differ (sentAt 0) p tt
+
+pub messages-nothing-sent-of-a-view : ¬ (allSent (sendTo 0 (made (rules.view 0)) ∷ []) ≡ allSent [])
+unfolding allSent padded madeWith
+messages-nothing-sent-of-a-view p = differ (λ (x : Sendings). kind (getD (x .of) 0 toNobody .body)) p tt
+
+pub messages-sent-before-without-the-rest : ¬ ((s : Sending) (rest : Sendings) → T (in-Sending s) → T (in-Sendings rest)
+    → allSent (s ∷ []) ≡ allSent (s ∷ rest .of))
+unfolding rowOf blankOf madeWith allSent padded
+messages-sent-before-without-the-rest p = differ (sentAt 1) (p toNobody (allSent (toFirst ∷ [])) tt tt) tt
+
+pub messages-sent-before-not-sent : ¬ ((s : Sending) (rest : Sendings) → T (in-Sending s) → T (in-Sendings rest) → rest ≡ allSent (s ∷ rest .of))
+unfolding rowOf blankOf madeWith allSent padded
+messages-sent-before-not-sent p = differ (sentAt 0) (p toFirst (allSent []) tt tt) tt
+
+pub messages-one-sent-twice : ¬ ((s : Sending) → T (in-Sending s) → allSent (s ∷ s ∷ []) ≡ allSent (s ∷ []))
+unfolding rowOf blankOf madeWith allSent padded
+messages-one-sent-twice p = differ (sentAt 1) (p toFirst tt) tt
+
+pub messages-one-sent-to-nobody : ¬ ((s : Sending) → T (in-Sending s) → allSent [] ≡ allSent (s ∷ []))
+unfolding rowOf blankOf madeWith allSent padded
+messages-one-sent-to-nobody p = differ (sentAt 0) (p toFirst tt) tt
 
 -- ---- generator
 
@@ -281,37 +315,41 @@ pub generator-agree-by-others-too : ¬ ((v : ℕ) (n : Notes) (q : Sequence) →
 unfolding notesOf viewsOf rowOf sameOf generators.agreeing ones onesIn reachesOf
 generator-agree-by-others-too p = differ truth (p 1 noteOfOne (rowOf (3 ∷ [])) tt tt tt) tt
 
+-- what is sent first
+abbrev firstOf : List rules.Sending → rules.Sending
+firstOf ss = getD ss 0 noSending
+
 abbrev firstTo : Turned → ℕ
-firstTo t = t .first .receivers
+firstTo t = firstOf (t .sendings) .receivers
 
 pub generator-proposes-though-it-has : ¬ ((g : Generator) (q : Sequence) → T (in-Generator g) → T (in-Sequence q)
     → turned (record { next = generators.withOwn (generatorOf g) (viewsOf q); sendings = rules.toMembers (g .view) (rules.proposal (g .view) (viewsOf q)) ∷ [] }) ≡ turned (generators.proposes (generatorOf g) (viewsOf q)))
-unfolding generatorOf notesOf viewsOf rowOf generators.proposes generators.withOwn turned
+unfolding generatorOf notesOf viewsOf rowOf generators.proposes generators.withOwn turned padded
 generator-proposes-though-it-has p = differ firstTo (p (generator 1 (3 ∷ []) []) (rowOf (7 ∷ [])) tt tt) tt
 
 pub generator-proposes-in-silence : ¬ ((g : Generator) (q : Sequence) → T (in-Generator g) → T (in-Sequence q)
     → turned (record { next = generators.withOwn (generatorOf g) (viewsOf q); sendings = [] }) ≡ turned (generators.proposes (generatorOf g) (viewsOf q)))
-unfolding generatorOf notesOf viewsOf rowOf generators.proposes generators.withOwn turned
+unfolding generatorOf notesOf viewsOf rowOf generators.proposes generators.withOwn turned padded
 generator-proposes-in-silence p = differ firstTo (p (generator 1 [] []) (rowOf (7 ∷ [])) tt tt) tt
 
 pub generator-proposal-heard-without-settling : ¬ ((g : Generator) (from : ℕ) (q : Sequence) → T (in-Generator g) → T (in-u8 from) → T (in-Sequence q)
     → turned (hearsInRow (generatorOf g) from (viewsOf q)) ≡ turned (heardInRow (generatorOf g) from (viewsOf q)))
-unfolding generatorOf notesOf viewsOf rowOf some insideOf clashOf plusOf unionOf heardOf sameOf ones onesIn reachesOf generators.withOwn generators.agreeing generators.hears generators.settles mergedInRow hearsInRow heardInRow turned
+unfolding generatorOf notesOf viewsOf rowOf some insideOf clashOf plusOf unionOf heardOf sameOf ones onesIn reachesOf generators.withOwn generators.agreeing generators.hears generators.settles mergedInRow hearsInRow heardInRow turned padded
 generator-proposal-heard-without-settling p = differ (λ (t : Turned). length (t .next .converged)) (p (generator 1 [] []) 0 (rowOf (3 ∷ [])) tt tt tt) tt
 
 pub generator-proposal-heard-without-a-note : ¬ ((g : Generator) (from : ℕ) (q : Sequence) → T (in-Generator g) → T (in-u8 from) → T (in-Sequence q)
     → turned (heardInRow (generatorOf g) 8 (viewsOf q)) ≡ turned (heardInRow (generatorOf g) from (viewsOf q)))
-unfolding generatorOf notesOf viewsOf rowOf some insideOf clashOf plusOf unionOf heardOf sameOf ones onesIn reachesOf generators.withOwn generators.agreeing generators.hears generators.settles mergedInRow hearsInRow heardInRow turned
+unfolding generatorOf notesOf viewsOf rowOf some insideOf clashOf plusOf unionOf heardOf sameOf ones onesIn reachesOf generators.withOwn generators.agreeing generators.hears generators.settles mergedInRow hearsInRow heardInRow turned padded
 generator-proposal-heard-without-a-note p = differ (λ (t : Turned). length (getD (t .next .proposals) 0 [])) (p (generator 1 [] []) 0 (rowOf (3 ∷ [])) tt tt tt) tt
 
 pub generator-converged-heard-without-raising : ¬ ((g : Generator) (from : ℕ) (q : Sequence) → T (in-Generator g) → T (in-u8 from) → T (in-Sequence q)
     → turned (record { next = generators.notesConverged (generatorOf g) from (viewsOf q); sendings = [] }) ≡ turned (generators.convergedHeard (generatorOf g) from (viewsOf q)))
-unfolding generatorOf notesOf viewsOf rowOf sameOf ones onesIn reachesOf generators.agreeing generators.notesConverged generators.raises generators.convergedHeard turned
+unfolding generatorOf notesOf viewsOf rowOf sameOf ones onesIn reachesOf generators.agreeing generators.notesConverged generators.raises generators.convergedHeard turned padded
 generator-converged-heard-without-raising p = differ firstTo (p (generator 1 [] []) 0 (rowOf (3 ∷ [])) tt tt tt) tt
 
 pub generator-converged-heard-raised-again : ¬ ((g : Generator) (from : ℕ) (q : Sequence) → T (in-Generator g) → T (in-u8 from) → T (in-Sequence q)
     → turned (generators.convergedHeard (generators.raises (generatorOf g) []) from (viewsOf q)) ≡ turned (generators.convergedHeard (generatorOf g) from (viewsOf q)))
-unfolding generatorOf notesOf viewsOf rowOf sameOf ones onesIn reachesOf generators.agreeing generators.notesConverged generators.raises generators.convergedHeard turned
+unfolding generatorOf notesOf viewsOf rowOf sameOf ones onesIn reachesOf generators.agreeing generators.notesConverged generators.raises generators.convergedHeard turned padded
 generator-converged-heard-raised-again p = differ firstTo (p (generator 1 [] (3 ∷ [])) 0 (rowOf (3 ∷ [])) tt tt tt) tt
 
 -- ---- relay
@@ -331,35 +369,35 @@ abbrev answer : {A : Type 0} → Planned A → ℕ
 answer p = p .answer
 
 abbrev sentTo : {A : Type 0} → Planned A → ℕ
-sentTo p = p .first .receivers
+sentTo p = firstOf (p .sendings) .receivers
 
 pub relay-join-asked-refused-always : ¬ ((s : ℕ) (p : Part) → T (in-u8 s) → T (in-Part p)
     → planned noRelay (rules.refused rules.not-now) ≡ planned noRelay (joinAnswer s (partOf p)))
-unfolding partOf relayOf joinAnswer relays.joinAsked planned rowOf
+unfolding partOf relayOf joinAnswer relays.joinAsked planned padded rowOf
 relay-join-asked-refused-always p = differ answer (p 1 (part false 0 1 0) tt tt) tt
 
 pub relay-join-asked-nothing-sent : ¬ ((s : ℕ) (p : Part) → T (in-u8 s) → T (in-Part p)
     → planned noRelay (rules.quietly (partOf p)) ≡ planned noRelay (joinAnswer s (partOf p)))
-unfolding partOf relayOf joinAnswer relays.joinAsked planned rowOf
+unfolding partOf relayOf joinAnswer relays.joinAsked planned padded rowOf
 relay-join-asked-nothing-sent p = differ sentTo (p 1 (part false 0 1 0) tt tt) tt
 
 pub relay-leave-asked-by-anyone : ¬ ((s : ℕ) (p : Part) → T (in-u8 s) → T (in-Part p)
     → planned noRelay (rules.sends (partOf p) (rules.toMembers (partOf p .view) (rules.request (joins (8 + s)) (partOf p .view)) ∷ [])) ≡ planned noRelay (relays.leaveAsked s (partOf p)))
-unfolding partOf relayOf memberOf relays.leaveAsked planned rowOf
+unfolding partOf relayOf memberOf relays.leaveAsked planned padded rowOf
 relay-leave-asked-by-anyone p = differ answer (p 1 (part false 0 1 0) tt tt) tt
 
 pub relay-leave-asked-as-a-join : ¬ ((s : ℕ) (p : Part) → T (in-u8 s) → T (in-Part p)
     → planned noRelay (rules.sends (partOf p) (rules.toMembers (partOf p .view) (rules.request (joins s) (partOf p .view)) ∷ [])) ≡ planned noRelay (relays.leaveAsked s (partOf p)))
-unfolding partOf relayOf memberOf relays.leaveAsked planned rowOf
-relay-leave-asked-as-a-join p = differ (λ (x : Planned state.Relay). bodyRow 0 0 (x .first .body) .updates) (p 0 (part true 1 1 0) tt tt) tt
+unfolding partOf relayOf memberOf relays.leaveAsked planned padded rowOf
+relay-leave-asked-as-a-join p = differ (λ (x : Planned state.Relay). bodyRow 0 0 (firstOf (x .sendings) .body) .updates) (p 0 (part true 1 1 0) tt tt) tt
 
 pub relay-timer-rang-refused-always : ¬ ((p : Part) → T (in-Part p) → planned noRelay (rules.refused rules.not-now) ≡ planned noRelay (timerAnswer (partOf p)))
-unfolding partOf relayOf viewsOf rowOf all timerAnswer relays.timerRang relays.atGenerator generators.fresh generators.generatorFor generators.putGenerator generators.withOwn generators.proposes withGenerators planned
+unfolding partOf relayOf viewsOf rowOf all timerAnswer relays.timerRang relays.atGenerator generators.fresh generators.generatorFor generators.putGenerator generators.withOwn generators.proposes withGenerators planned padded
 relay-timer-rang-refused-always p = differ answer (p (part true 1 1 2) tt) tt
 
 pub relay-timer-rang-nothing-pending : ¬ ((p : Part) → T (in-Part p)
     → planned noRelay (relays.atGenerator (partOf p) (generators.proposes (generators.generatorFor (partOf p .view) (partOf p .generators)) (partOf p .view ∷ []))) ≡ planned noRelay (timerAnswer (partOf p)))
-unfolding partOf relayOf viewsOf rowOf all timerAnswer relays.timerRang relays.atGenerator generators.fresh generators.generatorFor generators.putGenerator generators.withOwn generators.proposes withGenerators planned
+unfolding partOf relayOf viewsOf rowOf all timerAnswer relays.timerRang relays.atGenerator generators.fresh generators.generatorFor generators.putGenerator generators.withOwn generators.proposes withGenerators planned padded
 relay-timer-rang-nothing-pending p = differ answer (p (part true 1 1 0) tt) tt
 
 -- a Get and a Put of try 5 for view 1
@@ -371,17 +409,17 @@ put = record { kind = 8; first = 1; second = 0; tries = 5; sequence = rowOf []; 
 
 pub relay-hears-refused-always : ¬ ((s : ℕ) (p : Part) (from : ℕ) (b : Body) → T (in-u8 s) → T (in-Part p) → T (in-u8 from) → T (in-Body b)
     → planned noRelay (rules.refused rules.not-yet) ≡ planned noRelay (hearsAnswer s (partOf p) from (bodyOf b)))
-unfolding partOf relayOf bodyOf bodyIn viewsOf rowOf insideOf fitting fit.hearsInRow hearsAnswer relays.relayHears relays.getHeard planned
+unfolding partOf relayOf bodyOf bodyIn viewsOf rowOf insideOf fitting fit.hearsInRow hearsAnswer relays.relayHears relays.getHeard planned padded
 relay-hears-refused-always p = differ answer (p 0 (part true 1 1 0) 8 get tt tt tt tt) tt
 
 pub relay-hears-and-does-nothing : ¬ ((s : ℕ) (p : Part) (from : ℕ) (b : Body) → T (in-u8 s) → T (in-Part p) → T (in-u8 from) → T (in-Body b)
     → planned noRelay (rules.quietly (partOf p)) ≡ planned noRelay (hearsAnswer s (partOf p) from (bodyOf b)))
-unfolding partOf relayOf bodyOf bodyIn viewsOf rowOf insideOf fitting fit.hearsInRow hearsAnswer relays.relayHears relays.getHeard planned
+unfolding partOf relayOf bodyOf bodyIn viewsOf rowOf insideOf fitting fit.hearsInRow hearsAnswer relays.relayHears relays.getHeard planned padded
 relay-hears-and-does-nothing p = differ sentTo (p 0 (part true 1 1 0) 8 get tt tt tt tt) tt
 
 pub relay-hears-and-acknowledges-only : ¬ ((s : ℕ) (p : Part) (from : ℕ) (b : Body) → T (in-u8 s) → T (in-Part p) → T (in-u8 from) → T (in-Body b)
     → planned noRelay (rules.sends (partOf p) (rules.toOne from (rules.ack (b .tries)) ∷ [])) ≡ planned noRelay (hearsAnswer s (partOf p) from (bodyOf b)))
-unfolding partOf relayOf bodyOf bodyIn viewsOf rowOf insideOf signOf comparedOf greaterOf greatestOf withHolds fitting fit.hearsInRow hearsAnswer relays.relayHears relays.putHeard planned
+unfolding partOf relayOf bodyOf bodyIn viewsOf rowOf insideOf signOf comparedOf greaterOf greatestOf withHolds fitting fit.hearsInRow hearsAnswer relays.relayHears relays.putHeard planned padded
 relay-hears-and-acknowledges-only p = differ (λ (x : Planned state.Relay). x .next .holds .value) (p 0 (part true 1 1 0) 8 put tt tt tt tt) tt
 
 -- ---- desk
@@ -394,22 +432,22 @@ abbrev phased : Planned Desk → ℕ
 phased x = phaseNumber (x .next .phase)
 
 pub desk-read-asked-refused-always : ¬ ((d : Desk) → T (in-Desk d) → planned noDesk (rules.refused rules.not-now) ≡ planned noDesk (desks.readAsked d))
-unfolding desks.begins desks.readAsked planned
+unfolding desks.begins desks.readAsked planned padded
 desk-read-asked-refused-always p = differ answer (p (desk Idle) tt) tt
 
 pub desk-read-asked-of-the-same-try : ¬ ((d : Desk) → T (in-Desk d)
     → planned noDesk (rules.sends (cleared d Read1 (d .view) freshPair (d .tries)) (rules.toMembers (d .view) (rules.get (d .tries) (d .view)) ∷ [])) ≡ planned noDesk (desks.readAsked d))
-unfolding desks.begins desks.readAsked planned
+unfolding desks.begins desks.readAsked planned padded
 desk-read-asked-of-the-same-try p = differ (λ (x : Planned Desk). x .next .tries) (p (desk Idle) tt) tt
 
 pub desk-write-asked-without-its-value : ¬ ((d : Desk) (x : ℕ) → T (in-Desk d) → T (in-u32 x)
     → planned noDesk (desks.writeAsked d 0) ≡ planned noDesk (desks.writeAsked d x))
-unfolding desks.begins desks.writeAsked planned
+unfolding desks.begins desks.writeAsked planned padded
 desk-write-asked-without-its-value p = differ (λ (x : Planned Desk). x .next .holds .value) (p (desk Idle) 77 tt tt) tt
 
 pub desk-write-asked-as-a-read : ¬ ((d : Desk) (x : ℕ) → T (in-Desk d) → T (in-u32 x)
     → planned noDesk (desks.readAsked d) ≡ planned noDesk (desks.writeAsked d x))
-unfolding desks.begins desks.readAsked desks.writeAsked planned
+unfolding desks.begins desks.readAsked desks.writeAsked planned padded
 desk-write-asked-as-a-read p = differ phased (p (desk Idle) 77 tt tt) tt
 
 -- a reply with stamp and value to this try; a desk of another try
@@ -421,13 +459,13 @@ ofTry d try = record { alive = d .alive; view = d .view; phase = d .phase; tries
 
 pub desk-hears-nothing : ¬ ((n : ℕ) (d : Desk) (from : ℕ) (b : Body) → T (in-u8 n) → T (in-Desk d) → T (in-u8 from) → T (in-Body b)
     → planned noDesk (rules.quietly d) ≡ planned noDesk (desks.deskHears n d from (bodyOf b)))
-unfolding bodyOf bodyIn viewsOf rowOf memberOf ones onesIn reachesOf signOf comparedOf greaterOf greatestOf stamps.sameOf desks.notesPair desks.completes desks.counted desks.pairCame desks.deskHears planned
+unfolding bodyOf bodyIn viewsOf rowOf memberOf ones onesIn reachesOf signOf comparedOf greaterOf greatestOf stamps.sameOf desks.notesPair desks.completes desks.counted desks.pairCame desks.deskHears planned padded
 desk-hears-nothing p = differ phased (p 0 (desk Read1) 0 (reply 5) tt tt tt tt) tt
 
 -- "Letting a reply from an older try complete a quorum."
 pub desk-hears-any-try : ¬ ((n : ℕ) (d : Desk) (from : ℕ) (b : Body) → T (in-u8 n) → T (in-Desk d) → T (in-u8 from) → T (in-Body b)
     → planned noDesk (desks.deskHears n (ofTry d (b .tries)) from (bodyOf b)) ≡ planned noDesk (desks.deskHears n d from (bodyOf b)))
-unfolding bodyOf bodyIn viewsOf rowOf memberOf ones onesIn reachesOf signOf comparedOf greaterOf greatestOf stamps.sameOf desks.notesPair desks.completes desks.counted desks.pairCame desks.deskHears planned
+unfolding bodyOf bodyIn viewsOf rowOf memberOf ones onesIn reachesOf signOf comparedOf greaterOf greatestOf stamps.sameOf desks.notesPair desks.completes desks.counted desks.pairCame desks.deskHears planned padded
 desk-hears-any-try p = differ phased (p 0 (desk Read1) 0 (reply 4) tt tt tt tt) tt
 
 pub desk-note-reply-not-at-all : ¬ ((desk : Desk) (from : ℕ) (p : Pair) → T (in-Desk desk) → T (in-u8 from) → T (in-Pair p) → desk ≡ replyNoted desk from p)

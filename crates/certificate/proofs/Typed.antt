@@ -19,6 +19,8 @@ use Rattle.state.specs.declared.Head.{Head}
 use Rattle.state.specs.declared.Part.{Part}
 use Rattle.state.specs.declared.Body.{Body}
 use Rattle.state.specs.declared.Message.{Message}
+use Rattle.state.specs.declared.Sending.{Sending}
+use Rattle.state.specs.declared.Sendings.{Sendings}
 use Rattle.sheet.specs.declared.reader.Reader.{Reader}
 use Rattle.world.specs.declared.Answer.{Answer}
 use Rattle.world.specs.declared.Report.{Report}
@@ -97,6 +99,12 @@ in-Body x =
 
 abbrev pub in-Message : Message → Bool
 in-Message x = in-u8 (x .from) && in-u8 (x .to) && in-Body (x .body)
+
+abbrev pub in-Sending : Sending → Bool
+in-Sending x = in-Body (x .body) && in-u16 (x .receivers)
+
+abbrev pub in-Sendings : Sendings → Bool
+in-Sendings x = array 2 in-Sending (x .of)
 
 abbrev pub in-Reader : Reader → Bool
 in-Reader x = in-bytes (now (x .sheet)) && in-usize (x .at)
