@@ -11,29 +11,29 @@ use lib.Bits.{bit_or}
 use lib.Dec.{eqb, leb}
 use lib.ListN.{length, get_or}
 use denote.Ref.{Bor}
-use Rattle.views.specs.View.{members_of, memberOf, quorumOf, reachesOf, withinOf, insideOf, clashOf}
-use Rattle.views.specs.Chain.{has_of, lacksOf, conflictOf, sameOf, leastOf, most_of, plusOf, unionOf, heardOf, beyondOf, above_of}
-use Rattle.views.specs.Row.{viewsOf, row_of}
+use Rattle.views.specs.View.{members_of, member_of, quorum_of, reaches_of, within_of, inside_of, clash_of}
+use Rattle.views.specs.Chain.{has_of, lacks_of, conflict_of, same_of, least_of, most_of, plus_of, union_of, heard_of, beyond_of, above_of}
+use Rattle.views.specs.Row.{views_of, row_of}
 use Rattle.views.specs.declared.Sequence.{Sequence}
-use Rattle.stamps.specs.Stamp.{comparedOf, greater_of, greatestOf, freshPair}
+use Rattle.stamps.specs.Stamp.{compared_of, greater_of, greatest_of, fresh_pair}
 use Rattle.stamps.specs.Stamp as stamps
 use Rattle.stamps.specs.declared.Stamp.{Stamp}
 use Rattle.stamps.specs.declared.Pair.{Pair}
 use Rattle.rows.specs.Bytes as rows
-use Rattle.rows.specs.Bytes.{placed, be16, u16At, u32_at, zeros}
-use Rattle.rows.specs.Tests.{allZero}
+use Rattle.rows.specs.Bytes.{placed, be16, u16_at, u32_at, zeros}
+use Rattle.rows.specs.Tests.{all_zero}
 use Rattle.rules.specs.Sets.{members, joined}
 use Rattle.rules.specs.Messages as rules
-use Rattle.rules.specs.State.{noRelay, noDesk}
+use Rattle.rules.specs.State.{no_relay, no_desk}
 use Rattle.rules.specs.Generators as generators
 use Rattle.rules.specs.Relays as relays
 use Rattle.rules.specs.Desks.{begun, ended}
 use Rattle.rules.specs.Desks as desks
-use Rattle.layout.specs.Image.{sequenceBytes, pair_at, headBytes, generatorBytes, transferBytes, deskBytes, deskAt, rowBytes, goodBytes}
-use Rattle.layout.specs.Lent.{Lent, lentStart, lentStep}
+use Rattle.layout.specs.Image.{sequence_bytes, pair_at, head_bytes, generator_bytes, transfer_bytes, desk_bytes, desk_at, row_bytes, good_bytes}
+use Rattle.layout.specs.Lent.{Lent, lent_start, lent_step}
 use Rattle.rules.specs.Sets.{if◌then◌else◌}
 use Rattle.rules.specs.Sheets as sheets
-use Rattle.rules.specs.Runs.{decimal, line, fields, start_of, end_of, badOf}
+use Rattle.rules.specs.Runs.{decimal, line, fields, start_of, end_of, bad_of}
 use Rattle.rules.specs.declared.Desk.{Desk}
 use Rattle.rules.specs.declared.Phase.{Phase}
 use Rattle.rules.specs.declared.Step.{Step}
@@ -46,42 +46,42 @@ use Rattle.state.specs.declared.Body.{Body}
 use Rattle.state.specs.declared.Message.{Message}
 use Rattle.state.specs.declared.Sending.{Sending}
 use Rattle.state.specs.declared.Sendings.{Sendings}
-use Rattle.state.specs.Meaning.{notesOf, generatorOf, transferOf, relayOf, part_of, body_of}
-use Rattle.state.specs.Plans.{turn_of, turned, plan_of, deskPlanOf, planned}
-use Rattle.messages.specs.Made.{madeWith, made, sendTo, toNobody, allSent, one_of}
-use Rattle.generator.specs.Heard.{heardInRow}
-use Rattle.generator.specs.Rows.{fresh_row, notedRow}
-use Rattle.relay.specs.Fitting.{joinAnswer, timerAnswer, hearsAnswer}
-use Rattle.desk.specs.Replies.{replyNoted}
-use Rattle.image.specs.Parts.{notesBytes, headAt, messageRow, sequenceRowAt, notesRowAt, generatorRowAt, transferRowAt, messageRowAt}
-use Rattle.sheet.specs.Reading.{checkOf, frontOf, stepAt, after_of, takenAt}
-use Rattle.sheet.specs.Writing.{ruled, ruledSize, bufferOf, number_of, size_of}
+use Rattle.state.specs.Meaning.{notes_of, generator_of, transfer_of, relay_of, part_of, body_of}
+use Rattle.state.specs.Plans.{turn_of, turned, plan_of, desk_plan_of, planned}
+use Rattle.messages.specs.Made.{made_with, made, send_to, to_nobody, all_sent, one_of}
+use Rattle.generator.specs.Heard.{heard_in_row}
+use Rattle.generator.specs.Rows.{fresh_row, noted_row}
+use Rattle.relay.specs.Fitting.{join_answer, timer_answer, hears_answer}
+use Rattle.desk.specs.Replies.{reply_noted}
+use Rattle.image.specs.Parts.{notes_bytes, head_at, message_row, sequence_row_at, notes_row_at, generator_row_at, transfer_row_at, message_row_at}
+use Rattle.sheet.specs.Reading.{check_of, front_of, step_at, after_of, taken_at}
+use Rattle.sheet.specs.Writing.{ruled, ruled_size, buffer_of, number_of, size_of}
 use Rattle.sheet.specs.declared.Written.{Written}
 use Rattle.sheet.specs.declared.Written.TheVariants.{Done, BadSheet, NoRoom}
 use Rattle.sheet.specs.declared.reader.Reader.{Reader}
 use Rattle.record.specs.Lines.{laid, past, step_of}
-use Rattle.world.specs.Answer.{reportOf, lent_of}
-use Rattle.world.specs.Tracing.{columnsOf, waitingRows, traceAnswer, traceWorld, traceLeft}
-use Rattle.rehearsal.specs.Playing.{rehearseAnswer, worldLeft, recordLeft}
+use Rattle.world.specs.Answer.{report_of, lent_of}
+use Rattle.world.specs.Tracing.{columns_of, waiting_rows, trace_answer, trace_world, trace_left}
+use Rattle.rehearsal.specs.Playing.{rehearse_answer, world_left, record_left}
 use Rattle.world.specs.declared.Answer.{Answer}
 use Rattle.world.specs.declared.Report.{Report}
 use Rattle.world.specs.declared.Report.TheVariants.{Nothing, Opened, ReadDone, WriteDone}
 use Rattle.world.specs.declared.run.Columns.{Columns}
-use Rattle.engine.specs.Told.{goodNumber, sheetNumber, toldStep, toldRehearsal}
+use Rattle.engine.specs.Told.{good_number, sheet_number, told_step, told_rehearsal}
 
 -- whatever satisfies P is equal
 abbrev pub Determined : {A : Type 0} → (A → Type 0) → Type 0
 Determined {A} P = (r s : A) → P r → P s → r ≡ s
 
-pub by-equation : {A : Type 0} (x : A) → Determined (λ (r : A). r ≡ x)
-by-equation x r s e f = e ∙ sym f
+pub by_equation : {A : Type 0} (x : A) → Determined (λ (r : A). r ≡ x)
+by_equation x r s e f = e ∙ sym f
 
 -- whatever satisfies P is equal in what it means
 abbrev pub DeterminedBy : {A B : Type 0} → (A → B) → (A → Type 0) → Type 0
 DeterminedBy {A} f P = (r s : A) → P r → P s → f r ≡ f s
 
-pub by-meaning : {A B : Type 0} (f : A → B) (x : B) → DeterminedBy f (λ (r : A). f r ≡ x)
-by-meaning f x r s e g = e ∙ sym g
+pub by_meaning : {A B : Type 0} (f : A → B) (x : B) → DeterminedBy f (λ (r : A). f r ≡ x)
+by_meaning f x r s e g = e ∙ sym g
 
 -- two results with the buffers after them, that satisfy P, are equal, and so are the buffers
 abbrev pub DeterminedWith : {A B : Type 0} → (A → B → Type 0) → Type 0
@@ -89,495 +89,495 @@ DeterminedWith {A} {B} P = (r s : A) (b c : B) → P r b → P s c → (r ≡ s)
 
 -- ---- views
 
-pub views-members : (v : ℕ) → Determined (λ r. r ≡ members_of v)
-views-members v = by-equation (members_of v)
+pub views_members : (v : ℕ) → Determined (λ r. r ≡ members_of v)
+views_members v = by_equation (members_of v)
 
-pub views-is-member : (v s : ℕ) → Determined (λ r. r ≡ memberOf v s)
-views-is-member v s = by-equation (memberOf v s)
+pub views_is_member : (v s : ℕ) → Determined (λ r. r ≡ member_of v s)
+views_is_member v s = by_equation (member_of v s)
 
-pub views-quorum : (v : ℕ) → Determined (λ r. r ≡ quorumOf v)
-views-quorum v = by-equation (quorumOf v)
+pub views_quorum : (v : ℕ) → Determined (λ r. r ≡ quorum_of v)
+views_quorum v = by_equation (quorum_of v)
 
-pub views-reaches : (v who : ℕ) → Determined (λ r. r ≡ reachesOf v who)
-views-reaches v who = by-equation (reachesOf v who)
+pub views_reaches : (v who : ℕ) → Determined (λ r. r ≡ reaches_of v who)
+views_reaches v who = by_equation (reaches_of v who)
 
-pub views-within : (a b : ℕ) → Determined (λ r. r ≡ withinOf a b)
-views-within a b = by-equation (withinOf a b)
+pub views_within : (a b : ℕ) → Determined (λ r. r ≡ within_of a b)
+views_within a b = by_equation (within_of a b)
 
-pub views-inside : (a b : ℕ) → Determined (λ r. r ≡ insideOf a b)
-views-inside a b = by-equation (insideOf a b)
+pub views_inside : (a b : ℕ) → Determined (λ r. r ≡ inside_of a b)
+views_inside a b = by_equation (inside_of a b)
 
-pub views-clash : (a b : ℕ) → Determined (λ r. r ≡ clashOf a b)
-views-clash a b = by-equation (clashOf a b)
+pub views_clash : (a b : ℕ) → Determined (λ r. r ≡ clash_of a b)
+views_clash a b = by_equation (clash_of a b)
 
-pub views-join : (a b : ℕ) → Determined (λ r. r ≡ bit_or a b)
-views-join a b = by-equation (bit_or a b)
+pub views_join : (a b : ℕ) → Determined (λ r. r ≡ bit_or a b)
+views_join a b = by_equation (bit_or a b)
 
-pub views-empty : Determined (λ r. r ≡ row_of [])
-views-empty = by-equation (row_of [])
+pub views_empty : Determined (λ r. r ≡ row_of [])
+views_empty = by_equation (row_of [])
 
-pub views-count : (q : Sequence) → Determined (λ r. (r ≡ length (viewsOf q)) × (r ≤ 15))
-views-count q r s e f = e.0 ∙ sym f.0
+pub views_count : (q : Sequence) → Determined (λ r. (r ≡ length (views_of q)) × (r ≤ 15))
+views_count q r s e f = e.0 ∙ sym f.0
 
-pub views-view-at : (q : Sequence) (i : ℕ) → Determined (λ r. r ≡ get_or (viewsOf q) i 0)
-views-view-at q i = by-equation (get_or (viewsOf q) i 0)
+pub views_view_at : (q : Sequence) (i : ℕ) → Determined (λ r. r ≡ get_or (views_of q) i 0)
+views_view_at q i = by_equation (get_or (views_of q) i 0)
 
-pub views-kept : (q : Sequence) → Determined (λ r. r ≡ row_of (viewsOf q))
-views-kept q = by-equation (row_of (viewsOf q))
+pub views_kept : (q : Sequence) → Determined (λ r. r ≡ row_of (views_of q))
+views_kept q = by_equation (row_of (views_of q))
 
-pub views-has : (q : Sequence) (v : ℕ) → Determined (λ r. r ≡ has_of (viewsOf q) v)
-views-has q v = by-equation (has_of (viewsOf q) v)
+pub views_has : (q : Sequence) (v : ℕ) → Determined (λ r. r ≡ has_of (views_of q) v)
+views_has q v = by_equation (has_of (views_of q) v)
 
-pub views-lacks : (q own : Sequence) → Determined (λ r. r ≡ lacksOf (viewsOf q) (viewsOf own))
-views-lacks q own = by-equation (lacksOf (viewsOf q) (viewsOf own))
+pub views_lacks : (q own : Sequence) → Determined (λ r. r ≡ lacks_of (views_of q) (views_of own))
+views_lacks q own = by_equation (lacks_of (views_of q) (views_of own))
 
-pub views-conflict : (q own : Sequence) → Determined (λ r. r ≡ conflictOf (viewsOf q) (viewsOf own))
-views-conflict q own = by-equation (conflictOf (viewsOf q) (viewsOf own))
+pub views_conflict : (q own : Sequence) → Determined (λ r. r ≡ conflict_of (views_of q) (views_of own))
+views_conflict q own = by_equation (conflict_of (views_of q) (views_of own))
 
-pub views_same : (a b : Sequence) → Determined (λ r. r ≡ sameOf (viewsOf a) (viewsOf b))
-views_same a b = by-equation (sameOf (viewsOf a) (viewsOf b))
+pub views_same : (a b : Sequence) → Determined (λ r. r ≡ same_of (views_of a) (views_of b))
+views_same a b = by_equation (same_of (views_of a) (views_of b))
 
-pub views-least : (q : Sequence) → Determined (λ r. r ≡ leastOf (viewsOf q))
-views-least q = by-equation (leastOf (viewsOf q))
+pub views_least : (q : Sequence) → Determined (λ r. r ≡ least_of (views_of q))
+views_least q = by_equation (least_of (views_of q))
 
-pub views-most : (q : Sequence) → Determined (λ r. r ≡ most_of (viewsOf q))
-views-most q = by-equation (most_of (viewsOf q))
+pub views_most : (q : Sequence) → Determined (λ r. r ≡ most_of (views_of q))
+views_most q = by_equation (most_of (views_of q))
 
-pub views-single : (v : ℕ) → Determined (λ r. r ≡ row_of (v ∷ []))
-views-single v = by-equation (row_of (v ∷ []))
+pub views_single : (v : ℕ) → Determined (λ r. r ≡ row_of (v ∷ []))
+views_single v = by_equation (row_of (v ∷ []))
 
-pub views-plus : (v : ℕ) (q : Sequence) → Determined (λ r. r ≡ row_of (plusOf v (viewsOf q)))
-views-plus v q = by-equation (row_of (plusOf v (viewsOf q)))
+pub views_plus : (v : ℕ) (q : Sequence) → Determined (λ r. r ≡ row_of (plus_of v (views_of q)))
+views_plus v q = by_equation (row_of (plus_of v (views_of q)))
 
-pub views-union : (a b : Sequence) → Determined (λ r. r ≡ row_of (unionOf (viewsOf a) (viewsOf b)))
-views-union a b = by-equation (row_of (unionOf (viewsOf a) (viewsOf b)))
+pub views_union : (a b : Sequence) → Determined (λ r. r ≡ row_of (union_of (views_of a) (views_of b)))
+views_union a b = by_equation (row_of (union_of (views_of a) (views_of b)))
 
-pub views-heard : (own converged q : Sequence) → Determined (λ r. r ≡ row_of (heardOf (viewsOf own) (viewsOf converged) (viewsOf q)))
-views-heard own converged q = by-equation (row_of (heardOf (viewsOf own) (viewsOf converged) (viewsOf q)))
+pub views_heard : (own converged q : Sequence) → Determined (λ r. r ≡ row_of (heard_of (views_of own) (views_of converged) (views_of q)))
+views_heard own converged q = by_equation (row_of (heard_of (views_of own) (views_of converged) (views_of q)))
 
-pub views-beyond : (w : ℕ) (q : Sequence) → Determined (λ r. r ≡ row_of (beyondOf w (viewsOf q)))
-views-beyond w q = by-equation (row_of (beyondOf w (viewsOf q)))
+pub views_beyond : (w : ℕ) (q : Sequence) → Determined (λ r. r ≡ row_of (beyond_of w (views_of q)))
+views_beyond w q = by_equation (row_of (beyond_of w (views_of q)))
 
-pub views-above : (v : ℕ) (q : Sequence) → Determined (λ r. r ≡ above_of v (viewsOf q))
-views-above v q = by-equation (above_of v (viewsOf q))
+pub views_above : (v : ℕ) (q : Sequence) → Determined (λ r. r ≡ above_of v (views_of q))
+views_above v q = by_equation (above_of v (views_of q))
 
 -- ---- stamps
 
-pub stamps-compare : (a b : Stamp) → Determined (λ r. r ≡ comparedOf a b)
-stamps-compare a b = by-equation (comparedOf a b)
+pub stamps_compare : (a b : Stamp) → Determined (λ r. r ≡ compared_of a b)
+stamps_compare a b = by_equation (compared_of a b)
 
-pub stamps-greater : (a b : Stamp) → Determined (λ r. r ≡ greater_of a b)
-stamps-greater a b = by-equation (greater_of a b)
+pub stamps_greater : (a b : Stamp) → Determined (λ r. r ≡ greater_of a b)
+stamps_greater a b = by_equation (greater_of a b)
 
-pub stamps-same : (a b : Stamp) → Determined (λ r. r ≡ stamps.sameOf a b)
-stamps-same a b = by-equation (stamps.sameOf a b)
+pub stamps_same : (a b : Stamp) → Determined (λ r. r ≡ stamps.same_of a b)
+stamps_same a b = by_equation (stamps.same_of a b)
 
-pub stamps-greatest : (held new : Pair) → Determined (λ r. r ≡ greatestOf held new)
-stamps-greatest held new = by-equation (greatestOf held new)
+pub stamps_greatest : (held new : Pair) → Determined (λ r. r ≡ greatest_of held new)
+stamps_greatest held new = by_equation (greatest_of held new)
 
-pub stamps-fresh : Determined (λ r. r ≡ freshPair)
-stamps-fresh = by-equation freshPair
+pub stamps_fresh : Determined (λ r. r ≡ fresh_pair)
+stamps_fresh = by_equation fresh_pair
 
 -- ---- rows; of a function that writes, the bytes after it, where s is what the buffer held before
 
-pub rows-has-room : (len at n : ℕ) → Determined (λ r. r ≡ leb (at + n) len)
-rows-has-room len at n = by-equation (leb (at + n) len)
+pub rows_has_room : (len at n : ℕ) → Determined (λ r. r ≡ leb (at + n) len)
+rows_has_room len at n = by_equation (leb (at + n) len)
 
-pub rows-smaller : (a b : ℕ) → Determined (λ r. r ≡ min a b)
-rows-smaller a b = by-equation (min a b)
+pub rows_smaller : (a b : ℕ) → Determined (λ r. r ≡ min a b)
+rows_smaller a b = by_equation (min a b)
 
-pub rows-byte-at : (s : List ℕ) (at : ℕ) → Determined (λ r. r ≡ get_or s at 0)
-rows-byte-at s at = by-equation (get_or s at 0)
+pub rows_byte_at : (s : List ℕ) (at : ℕ) → Determined (λ r. r ≡ get_or s at 0)
+rows_byte_at s at = by_equation (get_or s at 0)
 
-pub rows-put-byte : (s : List ℕ) (at x : ℕ) → Determined (λ b. b ≡ placed s at (x ∷ []))
-rows-put-byte s at x = by-equation (placed s at (x ∷ []))
+pub rows_put_byte : (s : List ℕ) (at x : ℕ) → Determined (λ b. b ≡ placed s at (x ∷ []))
+rows_put_byte s at x = by_equation (placed s at (x ∷ []))
 
-pub rows-put-u16 : (s : List ℕ) (at x : ℕ) → Determined (λ b. b ≡ placed s at (be16 x))
-rows-put-u16 s at x = by-equation (placed s at (be16 x))
+pub rows_put_u16 : (s : List ℕ) (at x : ℕ) → Determined (λ b. b ≡ placed s at (be16 x))
+rows_put_u16 s at x = by_equation (placed s at (be16 x))
 
-pub rows-clear : (s : List ℕ) (at n : ℕ) → Determined (λ b. b ≡ placed s at (zeros n))
-rows-clear s at n = by-equation (placed s at (zeros n))
+pub rows_clear : (s : List ℕ) (at n : ℕ) → Determined (λ b. b ≡ placed s at (zeros n))
+rows_clear s at n = by_equation (placed s at (zeros n))
 
-pub rows-put-fields : (s : List ℕ) (at : ℕ) (widths xs : List ℕ) → Determined (λ b. b ≡ placed s at (rows.fields_of widths xs))
-rows-put-fields s at widths xs = by-equation (placed s at (rows.fields_of widths xs))
+pub rows_put_fields : (s : List ℕ) (at : ℕ) (widths xs : List ℕ) → Determined (λ b. b ≡ placed s at (rows.fields_of widths xs))
+rows_put_fields s at widths xs = by_equation (placed s at (rows.fields_of widths xs))
 
-pub rows-read-u16 : (s : List ℕ) (at : ℕ) → Determined (λ r. r ≡ u16At s at)
-rows-read-u16 s at = by-equation (u16At s at)
+pub rows_read_u16 : (s : List ℕ) (at : ℕ) → Determined (λ r. r ≡ u16_at s at)
+rows_read_u16 s at = by_equation (u16_at s at)
 
-pub rows-read-u32 : (s : List ℕ) (at : ℕ) → Determined (λ r. r ≡ u32_at s at)
-rows-read-u32 s at = by-equation (u32_at s at)
+pub rows_read_u32 : (s : List ℕ) (at : ℕ) → Determined (λ r. r ≡ u32_at s at)
+rows_read_u32 s at = by_equation (u32_at s at)
 
-pub rows-is-zero : (s : List ℕ) (at n : ℕ) → Determined (λ r. r ≡ allZero s at n)
-rows-is-zero s at n = by-equation (allZero s at n)
+pub rows_is_zero : (s : List ℕ) (at n : ℕ) → Determined (λ r. r ≡ all_zero s at n)
+rows_is_zero s at n = by_equation (all_zero s at n)
 
 -- ---- rules
 
-pub rules-begun : (self : Desk) (phase : Phase) (view : ℕ) (holds : Pair) → Determined (λ r. r ≡ begun self phase view holds)
-rules-begun self phase view holds = by-equation (begun self phase view holds)
+pub rules_begun : (self : Desk) (phase : Phase) (view : ℕ) (holds : Pair) → Determined (λ r. r ≡ begun self phase view holds)
+rules_begun self phase view holds = by_equation (begun self phase view holds)
 
-pub rules-ended : (self : Desk) → Determined (λ r. r ≡ ended self)
-rules-ended self = by-equation (ended self)
+pub rules_ended : (self : Desk) → Determined (λ r. r ≡ ended self)
+rules_ended self = by_equation (ended self)
 
 -- ---- messages
 
-pub messages-request : (u c : ℕ) → Determined (λ r. r ≡ made (rules.request u c))
-messages-request u c = by-equation (made (rules.request u c))
+pub messages_request : (u c : ℕ) → Determined (λ r. r ≡ made (rules.request u c))
+messages_request u c = by_equation (made (rules.request u c))
 
-pub messages-view : (v : ℕ) → Determined (λ r. r ≡ made (rules.view v))
-messages-view v = by-equation (made (rules.view v))
+pub messages_view : (v : ℕ) → Determined (λ r. r ≡ made (rules.view v))
+messages_view v = by_equation (made (rules.view v))
 
-pub messages-proposal : (v : ℕ) (q : Sequence) → Determined (λ r. r ≡ madeWith q (rules.proposal v (viewsOf q)))
-messages-proposal v q = by-equation (madeWith q (rules.proposal v (viewsOf q)))
+pub messages_proposal : (v : ℕ) (q : Sequence) → Determined (λ r. r ≡ made_with q (rules.proposal v (views_of q)))
+messages_proposal v q = by_equation (made_with q (rules.proposal v (views_of q)))
 
-pub messages-converged : (v : ℕ) (q : Sequence) → Determined (λ r. r ≡ madeWith q (rules.converged v (viewsOf q)))
-messages-converged v q = by-equation (madeWith q (rules.converged v (viewsOf q)))
+pub messages_converged : (v : ℕ) (q : Sequence) → Determined (λ r. r ≡ made_with q (rules.converged v (views_of q)))
+messages_converged v q = by_equation (made_with q (rules.converged v (views_of q)))
 
-pub messages-install : (o w : ℕ) (q : Sequence) → Determined (λ r. r ≡ madeWith q (rules.install o w (viewsOf q)))
-messages-install o w q = by-equation (madeWith q (rules.install o w (viewsOf q)))
+pub messages_install : (o w : ℕ) (q : Sequence) → Determined (λ r. r ≡ made_with q (rules.install o w (views_of q)))
+messages_install o w q = by_equation (made_with q (rules.install o w (views_of q)))
 
-pub messages-state : (o w : ℕ) (p : Pair) (updates : ℕ) → Determined (λ r. r ≡ made (rules.state o w p updates))
-messages-state o w p updates = by-equation (made (rules.state o w p updates))
+pub messages_state : (o w : ℕ) (p : Pair) (updates : ℕ) → Determined (λ r. r ≡ made (rules.state o w p updates))
+messages_state o w p updates = by_equation (made (rules.state o w p updates))
 
-pub messages-get : (tries c : ℕ) → Determined (λ r. r ≡ made (rules.get tries c))
-messages-get tries c = by-equation (made (rules.get tries c))
+pub messages_get : (tries c : ℕ) → Determined (λ r. r ≡ made (rules.get tries c))
+messages_get tries c = by_equation (made (rules.get tries c))
 
-pub messages-put : (tries c : ℕ) (p : Pair) → Determined (λ r. r ≡ made (rules.put tries c p))
-messages-put tries c p = by-equation (made (rules.put tries c p))
+pub messages_put : (tries c : ℕ) (p : Pair) → Determined (λ r. r ≡ made (rules.put tries c p))
+messages_put tries c p = by_equation (made (rules.put tries c p))
 
-pub messages-view-reply : (tries v : ℕ) → Determined (λ r. r ≡ made (rules.viewReply tries v))
-messages-view-reply tries v = by-equation (made (rules.viewReply tries v))
+pub messages_view_reply : (tries v : ℕ) → Determined (λ r. r ≡ made (rules.view_reply tries v))
+messages_view_reply tries v = by_equation (made (rules.view_reply tries v))
 
-pub messages-pair-reply : (tries : ℕ) (p : Pair) → Determined (λ r. r ≡ made (rules.pairReply tries p))
-messages-pair-reply tries p = by-equation (made (rules.pairReply tries p))
+pub messages_pair_reply : (tries : ℕ) (p : Pair) → Determined (λ r. r ≡ made (rules.pair_reply tries p))
+messages_pair_reply tries p = by_equation (made (rules.pair_reply tries p))
 
-pub messages-ack : (tries : ℕ) → Determined (λ r. r ≡ made (rules.ack tries))
-messages-ack tries = by-equation (made (rules.ack tries))
+pub messages_ack : (tries : ℕ) → Determined (λ r. r ≡ made (rules.ack tries))
+messages_ack tries = by_equation (made (rules.ack tries))
 
-pub messages-plain : (b : Body) → Determined (λ r. r ≡ madeWith b.sequence (body_of b))
-messages-plain b = by-equation (madeWith b.sequence (body_of b))
+pub messages_plain : (b : Body) → Determined (λ r. r ≡ made_with b.sequence (body_of b))
+messages_plain b = by_equation (made_with b.sequence (body_of b))
 
-pub messages-no-sending : Determined (λ r. r ≡ toNobody)
-messages-no-sending = by-equation toNobody
+pub messages_no_sending : Determined (λ r. r ≡ to_nobody)
+messages_no_sending = by_equation to_nobody
 
-pub messages-to-members : (v : ℕ) (body : Body) → Determined (λ r. r ≡ sendTo (members v) body)
-messages-to-members v body = by-equation (sendTo (members v) body)
+pub messages_to_members : (v : ℕ) (body : Body) → Determined (λ r. r ≡ send_to (members v) body)
+messages_to_members v body = by_equation (send_to (members v) body)
 
-pub messages-to-both : (v w : ℕ) (body : Body) → Determined (λ r. r ≡ sendTo (joined (members v) (members w)) body)
-messages-to-both v w body = by-equation (sendTo (joined (members v) (members w)) body)
+pub messages_to_both : (v w : ℕ) (body : Body) → Determined (λ r. r ≡ send_to (joined (members v) (members w)) body)
+messages_to_both v w body = by_equation (send_to (joined (members v) (members w)) body)
 
-pub messages-to-one : (s : ℕ) (body : Body) → Determined (λ r. r ≡ sendTo (one_of s) body)
-messages-to-one s body = by-equation (sendTo (one_of s) body)
+pub messages_to_one : (s : ℕ) (body : Body) → Determined (λ r. r ≡ send_to (one_of s) body)
+messages_to_one s body = by_equation (send_to (one_of s) body)
 
-pub messages-nothing-sent : Determined (λ r. r ≡ allSent [])
-messages-nothing-sent = by-equation (allSent [])
+pub messages_nothing_sent : Determined (λ r. r ≡ all_sent [])
+messages_nothing_sent = by_equation (all_sent [])
 
-pub messages-sent-before : (s : Sending) (rest : Sendings) → Determined (λ r. r ≡ allSent (s ∷ rest.of))
-messages-sent-before s rest = by-equation (allSent (s ∷ rest.of))
+pub messages_sent_before : (s : Sending) (rest : Sendings) → Determined (λ r. r ≡ all_sent (s ∷ rest.of))
+messages_sent_before s rest = by_equation (all_sent (s ∷ rest.of))
 
-pub messages-one-sent : (s : Sending) → Determined (λ r. r ≡ allSent (s ∷ []))
-messages-one-sent s = by-equation (allSent (s ∷ []))
+pub messages_one_sent : (s : Sending) → Determined (λ r. r ≡ all_sent (s ∷ []))
+messages_one_sent s = by_equation (all_sent (s ∷ []))
 
 -- ---- generator
 
-pub generator-fresh : (v : ℕ) → Determined (λ r. r ≡ fresh_row v)
-generator-fresh v = by-equation (fresh_row v)
+pub generator_fresh : (v : ℕ) → Determined (λ r. r ≡ fresh_row v)
+generator_fresh v = by_equation (fresh_row v)
 
-pub generator-noted : (n : Notes) (from : ℕ) (q : Sequence) → Determined (λ r. r ≡ notedRow n from q)
-generator-noted n from q = by-equation (notedRow n from q)
+pub generator_noted : (n : Notes) (from : ℕ) (q : Sequence) → Determined (λ r. r ≡ noted_row n from q)
+generator_noted n from q = by_equation (noted_row n from q)
 
-pub generator-agreeing : (n : Notes) (q : Sequence) → Determined (λ r. r ≡ generators.agreeing (notesOf n) (viewsOf q))
-generator-agreeing n q = by-equation (generators.agreeing (notesOf n) (viewsOf q))
+pub generator_agreeing : (n : Notes) (q : Sequence) → Determined (λ r. r ≡ generators.agreeing (notes_of n) (views_of q))
+generator_agreeing n q = by_equation (generators.agreeing (notes_of n) (views_of q))
 
-pub generator-agree : (v : ℕ) (n : Notes) (q : Sequence) → Determined (λ r. r ≡ generators.agree v (notesOf n) (viewsOf q))
-generator-agree v n q = by-equation (generators.agree v (notesOf n) (viewsOf q))
+pub generator_agree : (v : ℕ) (n : Notes) (q : Sequence) → Determined (λ r. r ≡ generators.agree v (notes_of n) (views_of q))
+generator_agree v n q = by_equation (generators.agree v (notes_of n) (views_of q))
 
-pub generator-proposes : (g : Generator) (q : Sequence) → DeterminedBy turn_of (λ r. turn_of r ≡ turned (generators.proposes (generatorOf g) (viewsOf q)))
-generator-proposes g q = by-meaning turn_of (turned (generators.proposes (generatorOf g) (viewsOf q)))
+pub generator_proposes : (g : Generator) (q : Sequence) → DeterminedBy turn_of (λ r. turn_of r ≡ turned (generators.proposes (generator_of g) (views_of q)))
+generator_proposes g q = by_meaning turn_of (turned (generators.proposes (generator_of g) (views_of q)))
 
-pub generator-proposal-heard : (g : Generator) (from : ℕ) (q : Sequence) → DeterminedBy turn_of (λ r. turn_of r ≡ turned (heardInRow (generatorOf g) from (viewsOf q)))
-generator-proposal-heard g from q = by-meaning turn_of (turned (heardInRow (generatorOf g) from (viewsOf q)))
+pub generator_proposal_heard : (g : Generator) (from : ℕ) (q : Sequence) → DeterminedBy turn_of (λ r. turn_of r ≡ turned (heard_in_row (generator_of g) from (views_of q)))
+generator_proposal_heard g from q = by_meaning turn_of (turned (heard_in_row (generator_of g) from (views_of q)))
 
-pub generator-converged-heard : (g : Generator) (from : ℕ) (q : Sequence) → DeterminedBy turn_of (λ r. turn_of r ≡ turned (generators.convergedHeard (generatorOf g) from (viewsOf q)))
-generator-converged-heard g from q = by-meaning turn_of (turned (generators.convergedHeard (generatorOf g) from (viewsOf q)))
+pub generator_converged_heard : (g : Generator) (from : ℕ) (q : Sequence) → DeterminedBy turn_of (λ r. turn_of r ≡ turned (generators.converged_heard (generator_of g) from (views_of q)))
+generator_converged_heard g from q = by_meaning turn_of (turned (generators.converged_heard (generator_of g) from (views_of q)))
 
 -- ---- relay
 
-pub relay-join-asked : (s : ℕ) (p : Part) → DeterminedBy plan_of (λ r. plan_of r ≡ planned noRelay (joinAnswer s (part_of p)))
-relay-join-asked s p = by-meaning plan_of (planned noRelay (joinAnswer s (part_of p)))
+pub relay_join_asked : (s : ℕ) (p : Part) → DeterminedBy plan_of (λ r. plan_of r ≡ planned no_relay (join_answer s (part_of p)))
+relay_join_asked s p = by_meaning plan_of (planned no_relay (join_answer s (part_of p)))
 
-pub relay-leave-asked : (s : ℕ) (p : Part) → DeterminedBy plan_of (λ r. plan_of r ≡ planned noRelay (relays.leaveAsked s (part_of p)))
-relay-leave-asked s p = by-meaning plan_of (planned noRelay (relays.leaveAsked s (part_of p)))
+pub relay_leave_asked : (s : ℕ) (p : Part) → DeterminedBy plan_of (λ r. plan_of r ≡ planned no_relay (relays.leave_asked s (part_of p)))
+relay_leave_asked s p = by_meaning plan_of (planned no_relay (relays.leave_asked s (part_of p)))
 
-pub relay-timer-rang : (p : Part) → DeterminedBy plan_of (λ r. plan_of r ≡ planned noRelay (timerAnswer (part_of p)))
-relay-timer-rang p = by-meaning plan_of (planned noRelay (timerAnswer (part_of p)))
+pub relay_timer_rang : (p : Part) → DeterminedBy plan_of (λ r. plan_of r ≡ planned no_relay (timer_answer (part_of p)))
+relay_timer_rang p = by_meaning plan_of (planned no_relay (timer_answer (part_of p)))
 
-pub relay-hears : (s : ℕ) (p : Part) (from : ℕ) (b : Body) → DeterminedBy plan_of (λ r. plan_of r ≡ planned noRelay (hearsAnswer s (part_of p) from (body_of b)))
-relay-hears s p from b = by-meaning plan_of (planned noRelay (hearsAnswer s (part_of p) from (body_of b)))
+pub relay_hears_lem : (s : ℕ) (p : Part) (from : ℕ) (b : Body) → DeterminedBy plan_of (λ r. plan_of r ≡ planned no_relay (hears_answer s (part_of p) from (body_of b)))
+relay_hears_lem s p from b = by_meaning plan_of (planned no_relay (hears_answer s (part_of p) from (body_of b)))
 
 -- ---- desk
 
-pub desk-read-asked : (d : Desk) → DeterminedBy deskPlanOf (λ r. deskPlanOf r ≡ planned noDesk (desks.readAsked d))
-desk-read-asked d = by-meaning deskPlanOf (planned noDesk (desks.readAsked d))
+pub desk_read_asked : (d : Desk) → DeterminedBy desk_plan_of (λ r. desk_plan_of r ≡ planned no_desk (desks.read_asked d))
+desk_read_asked d = by_meaning desk_plan_of (planned no_desk (desks.read_asked d))
 
-pub desk-write-asked : (d : Desk) (x : ℕ) → DeterminedBy deskPlanOf (λ r. deskPlanOf r ≡ planned noDesk (desks.writeAsked d x))
-desk-write-asked d x = by-meaning deskPlanOf (planned noDesk (desks.writeAsked d x))
+pub desk_write_asked : (d : Desk) (x : ℕ) → DeterminedBy desk_plan_of (λ r. desk_plan_of r ≡ planned no_desk (desks.write_asked d x))
+desk_write_asked d x = by_meaning desk_plan_of (planned no_desk (desks.write_asked d x))
 
-pub desk-hears : (n : ℕ) (d : Desk) (from : ℕ) (b : Body) → DeterminedBy deskPlanOf (λ r. deskPlanOf r ≡ planned noDesk (desks.deskHears n d from (body_of b)))
-desk-hears n d from b = by-meaning deskPlanOf (planned noDesk (desks.deskHears n d from (body_of b)))
+pub desk-hears : (n : ℕ) (d : Desk) (from : ℕ) (b : Body) → DeterminedBy desk_plan_of (λ r. desk_plan_of r ≡ planned no_desk (desks.desk_hears n d from (body_of b)))
+desk-hears n d from b = by_meaning desk_plan_of (planned no_desk (desks.desk_hears n d from (body_of b)))
 
-pub desk-note-reply : (desk : Desk) (from : ℕ) (p : Pair) → Determined (λ b. b ≡ replyNoted desk from p)
-desk-note-reply desk from p = by-equation (replyNoted desk from p)
+pub desk_note_reply : (desk : Desk) (from : ℕ) (p : Pair) → Determined (λ b. b ≡ reply_noted desk from p)
+desk_note_reply desk from p = by_equation (reply_noted desk from p)
 
 -- ---- image
 
-pub image-sequence-at : (s : List ℕ) (at : ℕ) → Determined (λ r. r ≡ sequenceRowAt s at)
-image-sequence-at s at = by-equation (sequenceRowAt s at)
+pub image_sequence_at : (s : List ℕ) (at : ℕ) → Determined (λ r. r ≡ sequence_row_at s at)
+image_sequence_at s at = by_equation (sequence_row_at s at)
 
-pub image-put-sequence : (s : List ℕ) (at : ℕ) (q : Sequence) → Determined (λ b. b ≡ placed s at (sequenceBytes (viewsOf q)))
-image-put-sequence s at q = by-equation (placed s at (sequenceBytes (viewsOf q)))
+pub image_put_sequence : (s : List ℕ) (at : ℕ) (q : Sequence) → Determined (λ b. b ≡ placed s at (sequence_bytes (views_of q)))
+image_put_sequence s at q = by_equation (placed s at (sequence_bytes (views_of q)))
 
-pub image-pair-at : (s : List ℕ) (at : ℕ) → Determined (λ r. r ≡ pair_at s at)
-image-pair-at s at = by-equation (pair_at s at)
+pub image_pair_at : (s : List ℕ) (at : ℕ) → Determined (λ r. r ≡ pair_at s at)
+image_pair_at s at = by_equation (pair_at s at)
 
-pub image-head-at : (s : List ℕ) (at : ℕ) → Determined (λ r. r ≡ headAt s at)
-image-head-at s at = by-equation (headAt s at)
+pub image_head_at : (s : List ℕ) (at : ℕ) → Determined (λ r. r ≡ head_at s at)
+image_head_at s at = by_equation (head_at s at)
 
-pub image-put-head : (s : List ℕ) (at : ℕ) (h : Head) → Determined (λ b. b ≡ placed s at (headBytes (relayOf h [] [])))
-image-put-head s at h = by-equation (placed s at (headBytes (relayOf h [] [])))
+pub image_put_head : (s : List ℕ) (at : ℕ) (h : Head) → Determined (λ b. b ≡ placed s at (head_bytes (relay_of h [] [])))
+image_put_head s at h = by_equation (placed s at (head_bytes (relay_of h [] [])))
 
-pub image-notes-at : (s : List ℕ) (at : ℕ) → Determined (λ r. r ≡ notesRowAt s at)
-image-notes-at s at = by-equation (notesRowAt s at)
+pub image_notes_at : (s : List ℕ) (at : ℕ) → Determined (λ r. r ≡ notes_row_at s at)
+image_notes_at s at = by_equation (notes_row_at s at)
 
-pub image-put-notes : (s : List ℕ) (at : ℕ) (n : Notes) → Determined (λ b. b ≡ placed s at (notesBytes (notesOf n)))
-image-put-notes s at n = by-equation (placed s at (notesBytes (notesOf n)))
+pub image_put_notes : (s : List ℕ) (at : ℕ) (n : Notes) → Determined (λ b. b ≡ placed s at (notes_bytes (notes_of n)))
+image_put_notes s at n = by_equation (placed s at (notes_bytes (notes_of n)))
 
-pub image-generator-at : (s : List ℕ) (at : ℕ) → Determined (λ r. r ≡ generatorRowAt s at)
-image-generator-at s at = by-equation (generatorRowAt s at)
+pub image_generator_at : (s : List ℕ) (at : ℕ) → Determined (λ r. r ≡ generator_row_at s at)
+image_generator_at s at = by_equation (generator_row_at s at)
 
-pub image-put-generator : (s : List ℕ) (at : ℕ) (g : Generator) → Determined (λ b. b ≡ placed s at (generatorBytes (generatorOf g)))
-image-put-generator s at g = by-equation (placed s at (generatorBytes (generatorOf g)))
+pub image_put_generator : (s : List ℕ) (at : ℕ) (g : Generator) → Determined (λ b. b ≡ placed s at (generator_bytes (generator_of g)))
+image_put_generator s at g = by_equation (placed s at (generator_bytes (generator_of g)))
 
-pub image-transfer-at : (s : List ℕ) (at : ℕ) → Determined (λ r. r ≡ transferRowAt s at)
-image-transfer-at s at = by-equation (transferRowAt s at)
+pub image_transfer_at : (s : List ℕ) (at : ℕ) → Determined (λ r. r ≡ transfer_row_at s at)
+image_transfer_at s at = by_equation (transfer_row_at s at)
 
-pub image-put-transfer : (s : List ℕ) (at : ℕ) (t : Transfer) → Determined (λ b. b ≡ placed s at (transferBytes (transferOf t)))
-image-put-transfer s at t = by-equation (placed s at (transferBytes (transferOf t)))
+pub image_put_transfer : (s : List ℕ) (at : ℕ) (t : Transfer) → Determined (λ b. b ≡ placed s at (transfer_bytes (transfer_of t)))
+image_put_transfer s at t = by_equation (placed s at (transfer_bytes (transfer_of t)))
 
-pub image-desk-at : (s : List ℕ) (at : ℕ) → Determined (λ r. r ≡ deskAt s at)
-image-desk-at s at = by-equation (deskAt s at)
+pub image_desk_at : (s : List ℕ) (at : ℕ) → Determined (λ r. r ≡ desk_at s at)
+image_desk_at s at = by_equation (desk_at s at)
 
-pub image-put-desk : (s : List ℕ) (at : ℕ) (d : Desk) → Determined (λ b. b ≡ placed s at (deskBytes d))
-image-put-desk s at d = by-equation (placed s at (deskBytes d))
+pub image_put_desk : (s : List ℕ) (at : ℕ) (d : Desk) → Determined (λ b. b ≡ placed s at (desk_bytes d))
+image_put_desk s at d = by_equation (placed s at (desk_bytes d))
 
-pub image-message-at : (s : List ℕ) (at : ℕ) → Determined (λ r. r ≡ messageRowAt s at)
-image-message-at s at = by-equation (messageRowAt s at)
+pub image_message_at : (s : List ℕ) (at : ℕ) → Determined (λ r. r ≡ message_row_at s at)
+image_message_at s at = by_equation (message_row_at s at)
 
-pub image-put-message : (s : List ℕ) (at : ℕ) (m : Message) → Determined (λ b. b ≡ placed s at (rowBytes (messageRow m)))
-image-put-message s at m = by-equation (placed s at (rowBytes (messageRow m)))
+pub image_put_message : (s : List ℕ) (at : ℕ) (m : Message) → Determined (λ b. b ≡ placed s at (row_bytes (message_row m)))
+image_put_message s at m = by_equation (placed s at (row_bytes (message_row m)))
 
 -- ---- good
 
-pub good-is-good : (w : List ℕ) → Determined (λ r. r ≡ goodBytes w)
-good-is-good w = by-equation (goodBytes w)
+pub good_is_good : (w : List ℕ) → Determined (λ r. r ≡ good_bytes w)
+good_is_good w = by_equation (good_bytes w)
 
 -- ---- sheet
 
-pub sheet-check : (b : List ℕ) → Determined (λ r. r ≡ checkOf b)
-sheet-check b = by-equation (checkOf b)
+pub sheet_check : (b : List ℕ) → Determined (λ r. r ≡ check_of b)
+sheet_check b = by_equation (check_of b)
 
-pub sheet-step-at : (b : List ℕ) (at : ℕ) → Determined (λ r. r ≡ stepAt b at)
-sheet-step-at b at = by-equation (stepAt b at)
+pub sheet_step_at : (b : List ℕ) (at : ℕ) → Determined (λ r. r ≡ step_at b at)
+sheet_step_at b at = by_equation (step_at b at)
 
-pub sheet-after : (b : List ℕ) (at : ℕ) → Determined (λ r. r ≡ after_of b at)
-sheet-after b at = by-equation (after_of b at)
+pub sheet_after : (b : List ℕ) (at : ℕ) → Determined (λ r. r ≡ after_of b at)
+sheet_after b at = by_equation (after_of b at)
 
 -- the answer with this number, of a sheet of this many bytes
-writtenFor : ℕ → ℕ → Written
-writtenFor n size = if eqb n 0 then Done size else if eqb n 8 then NoRoom else BadSheet
+written_for : ℕ → ℕ → Written
+written_for n size = if eqb n 0 then Done size else if eqb n 8 then NoRoom else BadSheet
 
-written_back : (r : Written) → writtenFor (number_of r) (size_of r) ≡ r
-unfolding writtenFor
+written_back : (r : Written) → written_for (number_of r) (size_of r) ≡ r
+unfolding written_for
 written_back (Done n) = refl
 written_back NoRoom = refl
 written_back BadSheet = refl
 
-pub sheet-write-answer : (buf : List ℕ) (mask : ℕ) (kinds ids values : List ℕ)
-    → Determined (λ r. (number_of r ≡ sheets.number (ruled buf mask kinds ids values)) × (size_of r ≡ ruledSize buf mask kinds ids values))
-sheet-write-answer buf mask kinds ids values r s e f =
-    sym (written_back r) ∙ (λ i. writtenFor ((e.0 ∙ sym f.0) i) ((e.1 ∙ sym f.1) i)) ∙ written_back s
+pub sheet_write_answer : (buf : List ℕ) (mask : ℕ) (kinds ids values : List ℕ)
+    → Determined (λ r. (number_of r ≡ sheets.number (ruled buf mask kinds ids values)) × (size_of r ≡ ruled_size buf mask kinds ids values))
+sheet_write_answer buf mask kinds ids values r s e f =
+    sym (written_back r) ∙ (λ i. written_for ((e.0 ∙ sym f.0) i) ((e.1 ∙ sym f.1) i)) ∙ written_back s
 
-pub sheet-write-left : (buf : List ℕ) (mask : ℕ) (kinds ids values : List ℕ) → Determined (λ b. b ≡ bufferOf buf (ruled buf mask kinds ids values))
-sheet-write-left buf mask kinds ids values = by-equation (bufferOf buf (ruled buf mask kinds ids values))
+pub sheet_write_left : (buf : List ℕ) (mask : ℕ) (kinds ids values : List ℕ) → Determined (λ b. b ≡ buffer_of buf (ruled buf mask kinds ids values))
+sheet_write_left buf mask kinds ids values = by_equation (buffer_of buf (ruled buf mask kinds ids values))
 
-reader-back : (r s : Reader) → r.sheet ≡ s.sheet → r.at ≡ s.at → r ≡ s
-reader-back r s e f = λ i. record { sheet = e i; at = f i }
+reader_back : (r s : Reader) → r.sheet ≡ s.sheet → r.at ≡ s.at → r ≡ s
+reader_back r s e f = λ i. record { sheet = e i; at = f i }
 
-pub sheet-new : (sheet : Bor (List ℕ)) → Determined (λ (r : Reader). (r.sheet ≡ sheet) × (r.at ≡ frontOf sheet.now))
-sheet-new sheet r s e f = reader-back r s (e.0 ∙ sym f.0) (e.1 ∙ sym f.1)
+pub sheet_new : (sheet : Bor (List ℕ)) → Determined (λ (r : Reader). (r.sheet ≡ sheet) × (r.at ≡ front_of sheet.now))
+sheet_new sheet r s e f = reader_back r s (e.0 ∙ sym f.0) (e.1 ∙ sym f.1)
 
-pub sheet-next : (r : Reader) → Determined (λ s. s ≡ stepAt r.sheet.now r.at)
-sheet-next r = by-equation (stepAt r.sheet.now r.at)
+pub sheet_next : (r : Reader) → Determined (λ s. s ≡ step_at r.sheet.now r.at)
+sheet_next r = by_equation (step_at r.sheet.now r.at)
 
-pub sheet-moved : (r : Reader) → Determined (λ (q : Reader). (q.sheet ≡ r.sheet) × (q.at ≡ after_of r.sheet.now r.at))
-sheet-moved r q s e f = reader-back q s (e.0 ∙ sym f.0) (e.1 ∙ sym f.1)
+pub sheet_moved : (r : Reader) → Determined (λ (q : Reader). (q.sheet ≡ r.sheet) × (q.at ≡ after_of r.sheet.now r.at))
+sheet_moved r q s e f = reader_back q s (e.0 ∙ sym f.0) (e.1 ∙ sym f.1)
 
-pub sheet-read-at : (sheet : List ℕ) (at : ℕ) → Determined (λ r. r ≡ takenAt sheet at)
-sheet-read-at sheet at = by-equation (takenAt sheet at)
+pub sheet_read_at : (sheet : List ℕ) (at : ℕ) → Determined (λ r. r ≡ taken_at sheet at)
+sheet_read_at sheet at = by_equation (taken_at sheet at)
 
 -- ---- record; the position past the bytes, and the bytes
 
-pub record-put-position : (out : List ℕ) (at x : ℕ) → Determined (λ r. r ≡ past at (x ∷ []))
-record-put-position out at x = by-equation (past at (x ∷ []))
+pub record_put_position : (out : List ℕ) (at x : ℕ) → Determined (λ r. r ≡ past at (x ∷ []))
+record_put_position out at x = by_equation (past at (x ∷ []))
 
-pub record-put-bytes : (out : List ℕ) (at x : ℕ) → Determined (λ b. b ≡ laid out at (x ∷ []))
-record-put-bytes out at x = by-equation (laid out at (x ∷ []))
+pub record_put_bytes : (out : List ℕ) (at x : ℕ) → Determined (λ b. b ≡ laid out at (x ∷ []))
+record_put_bytes out at x = by_equation (laid out at (x ∷ []))
 
-pub record-put-number-position : (out : List ℕ) (at n : ℕ) → Determined (λ r. r ≡ past at (decimal n))
-record-put-number-position out at n = by-equation (past at (decimal n))
+pub record_put_number_position : (out : List ℕ) (at n : ℕ) → Determined (λ r. r ≡ past at (decimal n))
+record_put_number_position out at n = by_equation (past at (decimal n))
 
-pub record-put-number-bytes : (out : List ℕ) (at n : ℕ) → Determined (λ b. b ≡ laid out at (decimal n))
-record-put-number-bytes out at n = by-equation (laid out at (decimal n))
+pub record_put_number_bytes : (out : List ℕ) (at n : ℕ) → Determined (λ b. b ≡ laid out at (decimal n))
+record_put_number_bytes out at n = by_equation (laid out at (decimal n))
 
-pub record-put-line-position : (out : List ℕ) (at : ℕ) (numbers : List ℕ) → Determined (λ r. r ≡ past at (line numbers))
-record-put-line-position out at numbers = by-equation (past at (line numbers))
+pub record_put_line_position : (out : List ℕ) (at : ℕ) (numbers : List ℕ) → Determined (λ r. r ≡ past at (line numbers))
+record_put_line_position out at numbers = by_equation (past at (line numbers))
 
-pub record-put-line-bytes : (out : List ℕ) (at : ℕ) (numbers : List ℕ) → Determined (λ b. b ≡ laid out at (line numbers))
-record-put-line-bytes out at numbers = by-equation (laid out at (line numbers))
+pub record_put_line_bytes : (out : List ℕ) (at : ℕ) (numbers : List ℕ) → Determined (λ b. b ≡ laid out at (line numbers))
+record_put_line_bytes out at numbers = by_equation (laid out at (line numbers))
 
-pub record-put-word-position : (out : List ℕ) (at : ℕ) (word : List ℕ) → Determined (λ r. r ≡ past at word)
-record-put-word-position out at word = by-equation (past at word)
+pub record_put_word_position : (out : List ℕ) (at : ℕ) (word : List ℕ) → Determined (λ r. r ≡ past at word)
+record_put_word_position out at word = by_equation (past at word)
 
-pub record-put-word-bytes : (out : List ℕ) (at : ℕ) (word : List ℕ) → Determined (λ b. b ≡ laid out at word)
-record-put-word-bytes out at word = by-equation (laid out at word)
+pub record_put_word_bytes : (out : List ℕ) (at : ℕ) (word : List ℕ) → Determined (λ b. b ≡ laid out at word)
+record_put_word_bytes out at word = by_equation (laid out at word)
 
-pub record-put-start-position : (out : List ℕ) (mask : ℕ) → Determined (λ r. r ≡ past 0 (start_of mask))
-record-put-start-position out mask = by-equation (past 0 (start_of mask))
+pub record_put_start_position : (out : List ℕ) (mask : ℕ) → Determined (λ r. r ≡ past 0 (start_of mask))
+record_put_start_position out mask = by_equation (past 0 (start_of mask))
 
-pub record-put-start-bytes : (out : List ℕ) (mask : ℕ) → Determined (λ b. b ≡ laid out 0 (start_of mask))
-record-put-start-bytes out mask = by-equation (laid out 0 (start_of mask))
+pub record_put_start_bytes : (out : List ℕ) (mask : ℕ) → Determined (λ b. b ≡ laid out 0 (start_of mask))
+record_put_start_bytes out mask = by_equation (laid out 0 (start_of mask))
 
-pub record-put-step-position : (out : List ℕ) (at number answer event who count desk last : ℕ) → Determined (λ r. r ≡ past at (step_of number answer event who count desk last))
-record-put-step-position out at number answer event who count desk last = by-equation (past at (step_of number answer event who count desk last))
+pub record_put_step_position : (out : List ℕ) (at number answer event who count desk last : ℕ) → Determined (λ r. r ≡ past at (step_of number answer event who count desk last))
+record_put_step_position out at number answer event who count desk last = by_equation (past at (step_of number answer event who count desk last))
 
-pub record-put-step-bytes : (out : List ℕ) (at number answer event who count desk last : ℕ) → Determined (λ b. b ≡ laid out at (step_of number answer event who count desk last))
-record-put-step-bytes out at number answer event who count desk last = by-equation (laid out at (step_of number answer event who count desk last))
+pub record_put_step_bytes : (out : List ℕ) (at number answer event who count desk last : ℕ) → Determined (λ b. b ≡ laid out at (step_of number answer event who count desk last))
+record_put_step_bytes out at number answer event who count desk last = by_equation (laid out at (step_of number answer event who count desk last))
 
-pub record-put-end-position : (out : List ℕ) (at sent delivered dropped waiting : ℕ) → Determined (λ r. r ≡ past at (end_of sent delivered dropped waiting))
-record-put-end-position out at sent delivered dropped waiting = by-equation (past at (end_of sent delivered dropped waiting))
+pub record_put_end_position : (out : List ℕ) (at sent delivered dropped waiting : ℕ) → Determined (λ r. r ≡ past at (end_of sent delivered dropped waiting))
+record_put_end_position out at sent delivered dropped waiting = by_equation (past at (end_of sent delivered dropped waiting))
 
-pub record-put-end-bytes : (out : List ℕ) (at sent delivered dropped waiting : ℕ) → Determined (λ b. b ≡ laid out at (end_of sent delivered dropped waiting))
-record-put-end-bytes out at sent delivered dropped waiting = by-equation (laid out at (end_of sent delivered dropped waiting))
+pub record_put_end_bytes : (out : List ℕ) (at sent delivered dropped waiting : ℕ) → Determined (λ b. b ≡ laid out at (end_of sent delivered dropped waiting))
+record_put_end_bytes out at sent delivered dropped waiting = by_equation (laid out at (end_of sent delivered dropped waiting))
 
-pub record-put-bad-position : (out : List ℕ) → Determined (λ r. r ≡ past 0 badOf)
-record-put-bad-position out = by-equation (past 0 badOf)
+pub record_put_bad_position : (out : List ℕ) → Determined (λ r. r ≡ past 0 bad_of)
+record_put_bad_position out = by_equation (past 0 bad_of)
 
-pub record-put-bad-bytes : (out : List ℕ) → Determined (λ b. b ≡ laid out 0 badOf)
-record-put-bad-bytes out = by-equation (laid out 0 badOf)
+pub record_put_bad_bytes : (out : List ℕ) → Determined (λ b. b ≡ laid out 0 bad_of)
+record_put_bad_bytes out = by_equation (laid out 0 bad_of)
 
 -- ---- world; of a step and of a start, the answer and the bytes after it at once
 
 -- the report that means this event, of this relay or desk
-reportFor : rules.Event → ℕ → Report
-reportFor rules.nothing who = Nothing
-reportFor (rules.opened v) who = Opened who v
-reportFor (rules.readDone p) who = ReadDone who p
-reportFor (rules.writeDone p) who = WriteDone who p
+report_for : rules.Event → ℕ → Report
+report_for rules.nothing who = Nothing
+report_for (rules.opened v) who = Opened who v
+report_for (rules.read_done p) who = ReadDone who p
+report_for (rules.write_done p) who = WriteDone who p
 
-report-back : (r : Report) → reportFor (reportOf r).event (reportOf r).who ≡ r
-unfolding reportOf reportFor
-report-back Nothing = refl
-report-back (Opened relay view) = refl
-report-back (ReadDone desk pair) = refl
-report-back (WriteDone desk pair) = refl
+report_back : (r : Report) → report_for (report_of r).event (report_of r).who ≡ r
+unfolding report_of report_for
+report_back Nothing = refl
+report_back (Opened relay view) = refl
+report_back (ReadDone desk pair) = refl
+report_back (WriteDone desk pair) = refl
 
-answerFor : Lent → Answer
-answerFor l = record { number = l.answer; report = reportFor l.report.event l.report.who }
+answer_for : Lent → Answer
+answer_for l = record { number = l.answer; report = report_for l.report.event l.report.who }
 
-answer_back : (r : Answer) (b : List ℕ) → answerFor (lent_of r b) ≡ r
-unfolding lent_of answerFor
+answer_back : (r : Answer) (b : List ℕ) → answer_for (lent_of r b) ≡ r
+unfolding lent_of answer_for
 answer_back r b =
     let with : Report → Answer = λ x. record { number = r.number; report = x } in
-    ap with (report-back r.report)
+    ap with (report_back r.report)
 
-by-lent : (l : Lent) → DeterminedWith (λ r b. lent_of r b ≡ l)
+by_lent : (l : Lent) → DeterminedWith (λ r b. lent_of r b ≡ l)
 unfolding lent_of
-by-lent l r s b c e f =
+by_lent l r s b c e f =
     let same = e ∙ sym f in
-    (sym (answer_back r b) ∙ ap answerFor same ∙ answer_back s c, ap (λ (x : Lent). x.buffer) same)
+    (sym (answer_back r b) ∙ ap answer_for same ∙ answer_back s c, ap (λ (x : Lent). x.buffer) same)
 
-pub world-step : (w : List ℕ) (k : Step) → DeterminedWith (λ r b. lent_of r b ≡ lentStep w k)
-world-step w k = by-lent (lentStep w k)
+pub world_step : (w : List ℕ) (k : Step) → DeterminedWith (λ r b. lent_of r b ≡ lent_step w k)
+world_step w k = by_lent (lent_step w k)
 
-pub world-start : (w : List ℕ) (mask : ℕ) → DeterminedWith (λ r b. lent_of r b ≡ lentStart w mask)
-world-start w mask = by-lent (lentStart w mask)
+pub world_start : (w : List ℕ) (mask : ℕ) → DeterminedWith (λ r b. lent_of r b ≡ lent_start w mask)
+world_start w mask = by_lent (lent_start w mask)
 
-columns-back : (r s : Columns) → columnsOf r ≡ columnsOf s → r ≡ s
-unfolding columnsOf
-columns-back r s e = λ i. record { event = get_or (e i) 0 0; who = get_or (e i) 1 0; count = get_or (e i) 2 0; desk = get_or (e i) 3 0; last = get_or (e i) 4 0 }
+columns_back : (r s : Columns) → columns_of r ≡ columns_of s → r ≡ s
+unfolding columns_of
+columns_back r s e = λ i. record { event = get_or (e i) 0 0; who = get_or (e i) 1 0; count = get_or (e i) 2 0; desk = get_or (e i) 3 0; last = get_or (e i) 4 0 }
 
-pub world-columns-of : (a : Answer) → Determined (λ r. columnsOf r ≡ fields (reportOf a.report).event (reportOf a.report).who)
-world-columns-of a r s e f = columns-back r s (e ∙ sym f)
+pub world_columns_of : (a : Answer) → Determined (λ r. columns_of r ≡ fields (report_of a.report).event (report_of a.report).who)
+world_columns_of a r s e f = columns_back r s (e ∙ sym f)
 
-pub world-waiting : (w : List ℕ) → Determined (λ r. r ≡ waitingRows w)
-world-waiting w = by-equation (waitingRows w)
+pub world_waiting : (w : List ℕ) → Determined (λ r. r ≡ waiting_rows w)
+world_waiting w = by_equation (waiting_rows w)
 
-pub world-trace-answer : (sheet world rows : List ℕ) → Determined (λ r. r ≡ traceAnswer sheet world rows)
-world-trace-answer sheet world rows = by-equation (traceAnswer sheet world rows)
+pub world_trace_answer : (sheet world rows : List ℕ) → Determined (λ r. r ≡ trace_answer sheet world rows)
+world_trace_answer sheet world rows = by_equation (trace_answer sheet world rows)
 
-pub world-trace-last : (sheet world rows : List ℕ) → Determined (λ b. b ≡ traceWorld sheet world rows)
-world-trace-last sheet world rows = by-equation (traceWorld sheet world rows)
+pub world_trace_last : (sheet world rows : List ℕ) → Determined (λ b. b ≡ trace_world sheet world rows)
+world_trace_last sheet world rows = by_equation (trace_world sheet world rows)
 
-pub world-trace-rows : (sheet world rows : List ℕ) → Determined (λ b. b ≡ traceLeft sheet world rows)
-world-trace-rows sheet world rows = by-equation (traceLeft sheet world rows)
+pub world_trace_rows : (sheet world rows : List ℕ) → Determined (λ b. b ≡ trace_left sheet world rows)
+world_trace_rows sheet world rows = by_equation (trace_left sheet world rows)
 
 -- ---- rehearsal
 
-pub rehearsal-rehearse-answer : (sheet world out : List ℕ) → Determined (λ r. r ≡ rehearseAnswer sheet world out)
-rehearsal-rehearse-answer sheet world out = by-equation (rehearseAnswer sheet world out)
+pub rehearsal_rehearse_answer : (sheet world out : List ℕ) → Determined (λ r. r ≡ rehearse_answer sheet world out)
+rehearsal_rehearse_answer sheet world out = by_equation (rehearse_answer sheet world out)
 
-pub rehearsal-rehearse-last : (sheet world out : List ℕ) → Determined (λ b. b ≡ worldLeft sheet world out)
-rehearsal-rehearse-last sheet world out = by-equation (worldLeft sheet world out)
+pub rehearsal_rehearse_last : (sheet world out : List ℕ) → Determined (λ b. b ≡ world_left sheet world out)
+rehearsal_rehearse_last sheet world out = by_equation (world_left sheet world out)
 
-pub rehearsal-rehearse-printed : (sheet world out : List ℕ) → Determined (λ b. b ≡ recordLeft sheet world out)
-rehearsal-rehearse-printed sheet world out = by-equation (recordLeft sheet world out)
+pub rehearsal_rehearse_printed : (sheet world out : List ℕ) → Determined (λ b. b ≡ record_left sheet world out)
+rehearsal_rehearse_printed sheet world out = by_equation (record_left sheet world out)
 
 -- ---- engine; the answer and each buffer that is lent, each with a promise of its own
 
-pub engine-world-good : (w : List ℕ) → Determined (λ r. r ≡ goodNumber w)
-engine-world-good w = by-equation (goodNumber w)
+pub engine_world_good : (w : List ℕ) → Determined (λ r. r ≡ good_number w)
+engine_world_good w = by_equation (good_number w)
 
-pub engine-world-start-answer : (w : List ℕ) (mask : ℕ) → Determined (λ r. r ≡ (lentStart w mask).answer)
-engine-world-start-answer w mask = by-equation (lentStart w mask).answer
+pub engine_world_start_answer : (w : List ℕ) (mask : ℕ) → Determined (λ r. r ≡ (lent_start w mask).answer)
+engine_world_start_answer w mask = by_equation (lent_start w mask).answer
 
-pub engine-world-start-buffer : (w : List ℕ) (mask : ℕ) → Determined (λ b. b ≡ (lentStart w mask).buffer)
-engine-world-start-buffer w mask = by-equation (lentStart w mask).buffer
+pub engine_world_start_buffer : (w : List ℕ) (mask : ℕ) → Determined (λ b. b ≡ (lent_start w mask).buffer)
+engine_world_start_buffer w mask = by_equation (lent_start w mask).buffer
 
-pub engine-world-step-answer : (w : List ℕ) (kind id value : ℕ) (told : List ℕ) → Determined (λ r. r ≡ (toldStep w kind id value told).answer)
-engine-world-step-answer w kind id value told = by-equation (toldStep w kind id value told).answer
+pub engine_world_step_answer : (w : List ℕ) (kind id value : ℕ) (told : List ℕ) → Determined (λ r. r ≡ (told_step w kind id value told).answer)
+engine_world_step_answer w kind id value told = by_equation (told_step w kind id value told).answer
 
-pub engine-world-step-buffer : (w : List ℕ) (kind id value : ℕ) (told : List ℕ) → Determined (λ b. b ≡ (toldStep w kind id value told).buffer)
-engine-world-step-buffer w kind id value told = by-equation (toldStep w kind id value told).buffer
+pub engine_world_step_buffer : (w : List ℕ) (kind id value : ℕ) (told : List ℕ) → Determined (λ b. b ≡ (told_step w kind id value told).buffer)
+engine_world_step_buffer w kind id value told = by_equation (told_step w kind id value told).buffer
 
-pub engine-world-step-columns : (w : List ℕ) (kind id value : ℕ) (told : List ℕ) → Determined (λ b. b ≡ (toldStep w kind id value told).told)
-engine-world-step-columns w kind id value told = by-equation (toldStep w kind id value told).told
+pub engine_world_step_columns : (w : List ℕ) (kind id value : ℕ) (told : List ℕ) → Determined (λ b. b ≡ (told_step w kind id value told).told)
+engine_world_step_columns w kind id value told = by_equation (told_step w kind id value told).told
 
-pub engine-sheet-check : (sheet : List ℕ) → Determined (λ r. r ≡ sheetNumber sheet)
-engine-sheet-check sheet = by-equation (sheetNumber sheet)
+pub engine_sheet_check : (sheet : List ℕ) → Determined (λ r. r ≡ sheet_number sheet)
+engine_sheet_check sheet = by_equation (sheet_number sheet)
 
-pub engine-sheet-write-answer : (buf : List ℕ) (mask : ℕ) (kinds ids values : List ℕ) → Determined (λ r. r ≡ sheets.number (ruled buf mask kinds ids values))
-engine-sheet-write-answer buf mask kinds ids values = by-equation (sheets.number (ruled buf mask kinds ids values))
+pub engine_sheet_write_answer : (buf : List ℕ) (mask : ℕ) (kinds ids values : List ℕ) → Determined (λ r. r ≡ sheets.number (ruled buf mask kinds ids values))
+engine_sheet_write_answer buf mask kinds ids values = by_equation (sheets.number (ruled buf mask kinds ids values))
 
-pub engine-sheet-write-left : (buf : List ℕ) (mask : ℕ) (kinds ids values : List ℕ) → Determined (λ b. b ≡ bufferOf buf (ruled buf mask kinds ids values))
-engine-sheet-write-left buf mask kinds ids values = sheet-write-left buf mask kinds ids values
+pub engine_sheet_write_left : (buf : List ℕ) (mask : ℕ) (kinds ids values : List ℕ) → Determined (λ b. b ≡ buffer_of buf (ruled buf mask kinds ids values))
+engine_sheet_write_left buf mask kinds ids values = sheet_write_left buf mask kinds ids values
 
-pub engine-sheet-rehearse-answer : (sheet world out told : List ℕ) → Determined (λ r. r ≡ (toldRehearsal sheet world out told).answer)
-engine-sheet-rehearse-answer sheet world out told = by-equation (toldRehearsal sheet world out told).answer
+pub engine_sheet_rehearse_answer : (sheet world out told : List ℕ) → Determined (λ r. r ≡ (told_rehearsal sheet world out told).answer)
+engine_sheet_rehearse_answer sheet world out told = by_equation (told_rehearsal sheet world out told).answer
 
-pub engine-sheet-rehearse-last : (sheet world out told : List ℕ) → Determined (λ b. b ≡ (toldRehearsal sheet world out told).last)
-engine-sheet-rehearse-last sheet world out told = by-equation (toldRehearsal sheet world out told).last
+pub engine_sheet_rehearse_last : (sheet world out told : List ℕ) → Determined (λ b. b ≡ (told_rehearsal sheet world out told).last)
+engine_sheet_rehearse_last sheet world out told = by_equation (told_rehearsal sheet world out told).last
 
-pub engine-sheet-rehearse-printed : (sheet world out told : List ℕ) → Determined (λ b. b ≡ (toldRehearsal sheet world out told).printed)
-engine-sheet-rehearse-printed sheet world out told = by-equation (toldRehearsal sheet world out told).printed
+pub engine_sheet_rehearse_printed : (sheet world out told : List ℕ) → Determined (λ b. b ≡ (told_rehearsal sheet world out told).printed)
+engine_sheet_rehearse_printed sheet world out told = by_equation (told_rehearsal sheet world out told).printed
 
-pub engine-sheet-rehearse-length : (sheet world out told : List ℕ) → Determined (λ b. b ≡ (toldRehearsal sheet world out told).told)
-engine-sheet-rehearse-length sheet world out told = by-equation (toldRehearsal sheet world out told).told
+pub engine_sheet_rehearse_length : (sheet world out told : List ℕ) → Determined (λ b. b ≡ (told_rehearsal sheet world out told).told)
+engine_sheet_rehearse_length sheet world out told = by_equation (told_rehearsal sheet world out told).told

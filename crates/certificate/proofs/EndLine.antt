@@ -11,41 +11,41 @@ use borrow.Author.Tests.{ltb-true, ltb-false, le-ltb, lt-ltb}
 use Rattle.views.proofs.Truth.{decided}
 use Rattle.rules.specs.Sets.{if◌then◌else◌}
 use Rattle.rules.specs.Runs.{decimal, line, end_of}
-use Rattle.record.proofs.Digits.{decimal-one, decimal-more}
+use Rattle.record.proofs.Digits.{decimal_one, decimal_more}
 
 -- a number read on from n, up to the first byte that is no digit, and what comes after that byte
 unfoldable read : ℕ → List ℕ → ℕ × List ℕ
 read n [] = (n, [])
 read n (x ∷ l) = if ltb x 48 then (n, l) else read (n * 10 + (x - 48)) l
 
-read-digit : (n d : ℕ) (l : List ℕ) → read n ((48 + d) ∷ l) ≡ read (n * 10 + d) l
+read_digit : (n d : ℕ) (l : List ℕ) → read n ((48 + d) ∷ l) ≡ read (n * 10 + d) l
 unfolding read
-read-digit n d l =
+read_digit n d l =
     let digit : 48 + d - 48 ≡ d = omega arith in
     rw (le-ltb (48 + d) 48 (omega arith), digit)
 
-read-decimal : (k n : ℕ) → n < k → n < 4294967296 → (l : List ℕ) → read 0 (decimal n ++ l) ≡ read n l
-read-decimal zero n h small l = absurd (omega arith)
-read-decimal (suc k) n h small l = go (decided (ltb n 10)) (λ m p q r. read-decimal k m p q r)
+read_decimal : (k n : ℕ) → n < k → n < 4294967296 → (l : List ℕ) → read 0 (decimal n ++ l) ≡ read n l
+read_decimal zero n h small l = absurd (omega arith)
+read_decimal (suc k) n h small l = go (decided (ltb n 10)) (λ m p q r. read_decimal k m p q r)
   where
     go : (ltb n 10 ≡ true) ⊎ (ltb n 10 ≡ false) → ((m : ℕ) → m < k → m < 4294967296 → (r : List ℕ) → read 0 (decimal m ++ r) ≡ read m r)
         → read 0 (decimal n ++ l) ≡ read n l
     go (inl e) ih =
         let whole : 0 * 10 + n ≡ n = omega arith in
-        ap (λ (d : List ℕ). read 0 (d ++ l)) (decimal-one n (ltb-true n 10 e)) ∙ read-digit 0 n l ∙ ap (λ (m : ℕ). read m l) whole
+        ap (λ (d : List ℕ). read 0 (d ++ l)) (decimal_one n (ltb-true n 10 e)) ∙ read_digit 0 n l ∙ ap (λ (m : ℕ). read m l) whole
     go (inr e) ih =
         let whole : n / 10 * 10 + n % 10 ≡ n = omega arith in
-        ap (λ (d : List ℕ). read 0 (d ++ l)) (decimal-more n (ltb-false n 10 e) small)
+        ap (λ (d : List ℕ). read 0 (d ++ l)) (decimal_more n (ltb-false n 10 e) small)
         ∙ ap (read 0) (append_assoc (decimal (n / 10)) ((48 + n % 10) ∷ []) l)
         ∙ ih (n / 10) (omega (arith, ltb-false n 10 e)) (omega arith) ((48 + n % 10) ∷ l)
-        ∙ read-digit (n / 10) (n % 10) l
+        ∙ read_digit (n / 10) (n % 10) l
         ∙ ap (λ (m : ℕ). read m l) whole
 
 -- x is a blank or a newline; t is what stands after the line
 number_read : (n x : ℕ) (l t : List ℕ) → n < 4294967296 → x < 48 → read 0 ((decimal n ++ (x ∷ l)) ++ t) ≡ (n, l ++ t)
 unfolding read
 number_read n x l t small h =
-    ap (read 0) (append_assoc (decimal n) (x ∷ l) t) ∙ read-decimal (suc n) n (omega arith) small (x ∷ (l ++ t)) ∙ rw (lt-ltb x 48 h)
+    ap (read 0) (append_assoc (decimal n) (x ∷ l) t) ∙ read_decimal (suc n) n (omega arith) small (x ∷ (l ++ t)) ∙ rw (lt-ltb x 48 h)
 
 apart : (n m x : ℕ) (l r t u : List ℕ) → n < 4294967296 → m < 4294967296 → x < 48 → (decimal n ++ (x ∷ l)) ++ t ≡ (decimal m ++ (x ∷ r)) ++ u → (n ≡ m) × (l ++ t ≡ r ++ u)
 apart n m x l r t u p q h e =

@@ -13,15 +13,15 @@ use Rattle.rules.specs.State.{Generator, Transfer, Relay, Place, World}
 use Rattle.rules.specs.declared.Desk.{Desk}
 use Rattle.rules.specs.declared.Phase.{Phase}
 use Rattle.rules.specs.declared.Phase.TheVariants.{Idle, Read1, Read2, Write1, Write2}
-use Rattle.rules.specs.WellFormed.{wellFormed}
-use Rattle.layout.specs.Layout.{worldWidth, worldRest}
-use Rattle.layout.specs.Image.{flag, sequenceBytes, pairBytes, pairFields, headBytes, headFields, generatorBytes, generatorFields}
-use Rattle.layout.specs.Image.{transferBytes, transferFields, relayBytes, relayFields, phaseNumber, deskBytes, deskFields}
-use Rattle.layout.specs.Image.{Row, placeRow, rowBytes, rowFields, placeBytes, image, worldTables}
+use Rattle.rules.specs.WellFormed.{well_formed}
+use Rattle.layout.specs.Layout.{world_width, world_rest}
+use Rattle.layout.specs.Image.{flag, sequence_bytes, pair_bytes, pair_fields, head_bytes, head_fields, generator_bytes, generator_fields}
+use Rattle.layout.specs.Image.{transfer_bytes, transfer_fields, relay_bytes, relay_fields, phase_number, desk_bytes, desk_fields}
+use Rattle.layout.specs.Image.{Row, place_row, row_bytes, row_fields, place_bytes, image, world_tables}
 use Rattle.layout.proofs.Fits.{SequenceFits, PairFits, NotesFit, GeneratorFits, TransferFits, RelayFits, DeskFits, RowFits}
 use Rattle.layout.proofs.Widths.{length-image}
-use Rattle.layout.proofs.World.{world-fits}
-use Rattle.certificate.proofs.Typed.{in-u8, every, in_bytes}
+use Rattle.layout.proofs.World.{world_fits}
+use Rattle.certificate.proofs.Typed.{in_u8, every, in_bytes}
 
 -- ---- bytes, and pieces of bytes one after another
 
@@ -53,119 +53,119 @@ unfolding run
 in_rows zero f h = unfold Bytes in tt
 in_rows (suc n) f h = joined (run n f) (f n) (in_rows n f h) (h n)
 
-number-bytes : (n x : ℕ) → Bytes (bytes_of n x)
+number_bytes : (n x : ℕ) → Bytes (bytes_of n x)
 unfolding bytes_of
-number-bytes zero x = unfold Bytes in tt
-number-bytes (suc n) x = joined (bytes_of n (x / 256)) (x % 256 ∷ []) (number-bytes n (x / 256)) (one_byte (x % 256) (omega arith))
+number_bytes zero x = unfold Bytes in tt
+number_bytes (suc n) x = joined (bytes_of n (x / 256)) (x % 256 ∷ []) (number_bytes n (x / 256)) (one_byte (x % 256) (omega arith))
 
-zero-bytes : (n : ℕ) → Bytes (zeros n)
+zero_bytes_lem : (n : ℕ) → Bytes (zeros n)
 unfolding zeros
-zero-bytes n = in_rows n (λ k. 0 ∷ []) (λ k. one_byte 0 (omega arith))
+zero_bytes_lem n = in_rows n (λ k. 0 ∷ []) (λ k. one_byte 0 (omega arith))
 
-flag-byte : (b : Bool) → Bytes (flag b)
-flag-byte true = one_byte 1 (omega arith)
-flag-byte false = one_byte 0 (omega arith)
+flag_byte : (b : Bool) → Bytes (flag b)
+flag_byte true = one_byte 1 (omega arith)
+flag_byte false = one_byte 0 (omega arith)
 
 -- ---- the parts of a world
 
-sequence-bytes : (q : List ℕ) → SequenceFits q → Bytes (sequenceBytes q)
-unfolding sequenceBytes
-sequence-bytes q h =
-    let views = in_rows 15 (λ k. bytes_of 2 (get_or q k 0)) (λ k. number-bytes 2 (get_or q k 0)) in
+sequence_bytes_lem : (q : List ℕ) → SequenceFits q → Bytes (sequence_bytes q)
+unfolding sequence_bytes
+sequence_bytes_lem q h =
+    let views = in_rows 15 (λ k. bytes_of 2 (get_or q k 0)) (λ k. number_bytes 2 (get_or q k 0)) in
     joined (run 15 (λ k. bytes_of 2 (get_or q k 0))) (length q ∷ []) views (one_byte (length q) (omega (arith, h.few)))
 
-notes-bytes : (ns : List (List ℕ)) → NotesFit ns → Bytes (run 8 (λ k. sequenceBytes (get_or ns k [])))
-notes-bytes ns h = in_rows 8 _ (λ k. sequence-bytes (get_or ns k []) (h.each k))
+notes_bytes_lem : (ns : List (List ℕ)) → NotesFit ns → Bytes (run 8 (λ k. sequence_bytes (get_or ns k [])))
+notes_bytes_lem ns h = in_rows 8 _ (λ k. sequence_bytes_lem (get_or ns k []) (h.each k))
 
-pair-bytes : (p : Pair) → PairFits p → Bytes (pairBytes p)
-unfolding pairBytes
-pair-bytes p h = pieces (pairFields p) (number-bytes 2 p.stamp.count and one_byte p.stamp.desk h.desk and number-bytes 4 p.value and no_more)
+pair_bytes_lem : (p : Pair) → PairFits p → Bytes (pair_bytes p)
+unfolding pair_bytes
+pair_bytes_lem p h = pieces (pair_fields p) (number_bytes 2 p.stamp.count and one_byte p.stamp.desk h.desk and number_bytes 4 p.value and no_more)
 
-head_bytes : (r : Relay) → PairFits r.holds → Bytes (headBytes r)
-unfolding headBytes
-head_bytes r h =
-    pieces (headFields r)
-    (flag-byte r.alive and flag-byte r.entered and flag-byte r.active and number-bytes 2 r.view
-    and number-bytes 2 r.known and number-bytes 2 r.pending and pair-bytes r.holds h and zero-bytes 48 and no_more)
+head_bytes_lem : (r : Relay) → PairFits r.holds → Bytes (head_bytes r)
+unfolding head_bytes
+head_bytes_lem r h =
+    pieces (head_fields r)
+    (flag_byte r.alive and flag_byte r.entered and flag_byte r.active and number_bytes 2 r.view
+    and number_bytes 2 r.known and number_bytes 2 r.pending and pair_bytes_lem r.holds h and zero_bytes_lem 48 and no_more)
 
-generator-bytes : (g : Generator) → GeneratorFits g → Bytes (generatorBytes g)
-unfolding generatorBytes
-generator-bytes g h =
-    pieces (generatorFields g)
-    (number-bytes 2 g.view and sequence-bytes g.own h.own and sequence-bytes g.converged h.converged
-    and sequence-bytes g.raised h.raised and notes-bytes g.proposals h.proposals
-    and notes-bytes g.convergences h.convergences and zero-bytes 1 and no_more)
+generator_bytes_lem : (g : Generator) → GeneratorFits g → Bytes (generator_bytes g)
+unfolding generator_bytes
+generator_bytes_lem g h =
+    pieces (generator_fields g)
+    (number_bytes 2 g.view and sequence_bytes_lem g.own h.own and sequence_bytes_lem g.converged h.converged
+    and sequence_bytes_lem g.raised h.raised and notes_bytes_lem g.proposals h.proposals
+    and notes_bytes_lem g.convergences h.convergences and zero_bytes_lem 1 and no_more)
 
-transfer-bytes : (t : Transfer) → TransferFits t → Bytes (transferBytes t)
-unfolding transferBytes
-transfer-bytes t h =
-    pieces (transferFields t)
-    (number-bytes 2 t.old and number-bytes 2 t.new and sequence-bytes t.sequence h.sequence
-    and one_byte t.senders h.senders and pair-bytes t.best h.best and number-bytes 2 t.gathered and zero-bytes 35
+transfer_bytes_lem : (t : Transfer) → TransferFits t → Bytes (transfer_bytes t)
+unfolding transfer_bytes
+transfer_bytes_lem t h =
+    pieces (transfer_fields t)
+    (number_bytes 2 t.old and number_bytes 2 t.new and sequence_bytes_lem t.sequence h.sequence
+    and one_byte t.senders h.senders and pair_bytes_lem t.best h.best and number_bytes 2 t.gathered and zero_bytes_lem 35
     and no_more)
 
-relay-bytes : (r : Relay) → RelayFits r → Bytes (relayBytes r)
-unfolding relayBytes
-relay-bytes r h =
-    pieces (relayFields r)
-    (head_bytes r h.holds and in_rows 8 _ (λ k. generator-bytes _ (h.generators.each k))
-    and in_rows 8 _ (λ k. transfer-bytes _ (h.transfers.each k)) and no_more)
+relay_bytes_lem : (r : Relay) → RelayFits r → Bytes (relay_bytes r)
+unfolding relay_bytes
+relay_bytes_lem r h =
+    pieces (relay_fields r)
+    (head_bytes_lem r h.holds and in_rows 8 _ (λ k. generator_bytes_lem _ (h.generators.each k))
+    and in_rows 8 _ (λ k. transfer_bytes_lem _ (h.transfers.each k)) and no_more)
 
-phase-byte : (p : Phase) → phaseNumber p < 256
-phase-byte Idle = omega arith
-phase-byte Read1 = omega arith
-phase-byte Read2 = omega arith
-phase-byte Write1 = omega arith
-phase-byte Write2 = omega arith
+phase_byte : (p : Phase) → phase_number p < 256
+phase_byte Idle = omega arith
+phase_byte Read1 = omega arith
+phase_byte Read2 = omega arith
+phase_byte Write1 = omega arith
+phase_byte Write2 = omega arith
 
-desk-bytes : (d : Desk) → DeskFits d → Bytes (deskBytes d)
-unfolding deskBytes
-desk-bytes d h =
-    pieces (deskFields d)
-    (flag-byte d.alive and one_byte (phaseNumber d.phase) (phase-byte d.phase) and number-bytes 2 d.view
-    and number-bytes 2 d.tries and pair-bytes d.holds h.holds and one_byte d.replied h.replied
-    and pair-bytes d.best h.best and flag-byte d.agreed and zero-bytes 42 and no_more)
+desk_bytes_lem : (d : Desk) → DeskFits d → Bytes (desk_bytes d)
+unfolding desk_bytes
+desk_bytes_lem d h =
+    pieces (desk_fields d)
+    (flag_byte d.alive and one_byte (phase_number d.phase) (phase_byte d.phase) and number_bytes 2 d.view
+    and number_bytes 2 d.tries and pair_bytes_lem d.holds h.holds and one_byte d.replied h.replied
+    and pair_bytes_lem d.best h.best and flag_byte d.agreed and zero_bytes_lem 42 and no_more)
 
-row-bytes : (m : Row) → RowFits m → Bytes (rowBytes m)
-unfolding rowBytes
-row-bytes m h =
-    pieces (rowFields m)
-    (one_byte m.kind h.kind and one_byte m.from h.from and one_byte m.to h.to and number-bytes 2 m.first
-    and number-bytes 2 m.second and number-bytes 2 m.tries and sequence-bytes m.sequence h.sequence
-    and pair-bytes m.pair h.pair and number-bytes 2 m.updates and zero-bytes 31 and no_more)
+row_bytes_lem : (m : Row) → RowFits m → Bytes (row_bytes m)
+unfolding row_bytes
+row_bytes_lem m h =
+    pieces (row_fields m)
+    (one_byte m.kind h.kind and one_byte m.from h.from and one_byte m.to h.to and number_bytes 2 m.first
+    and number_bytes 2 m.second and number_bytes 2 m.tries and sequence_bytes_lem m.sequence h.sequence
+    and pair_bytes_lem m.pair h.pair and number_bytes 2 m.updates and zero_bytes_lem 31 and no_more)
 
-place-bytes : (p : Place) → RowFits (placeRow p) → Bytes (placeBytes p)
-unfolding placeBytes
-place-bytes p h = row-bytes (placeRow p) h
+place_bytes_lem : (p : Place) → RowFits (place_row p) → Bytes (place_bytes p)
+unfolding place_bytes
+place_bytes_lem p h = row_bytes_lem (place_row p) h
 
-world-bytes : (w : World) → wellFormed w ≡ true → Bytes (image w)
+world_bytes : (w : World) → well_formed w ≡ true → Bytes (image w)
 unfolding image
-world-bytes w good =
-    let h = world-fits w good in
-    pieces (worldTables w)
-    (in_rows 8 _ (λ k. relay-bytes _ (h.relay k)) and in_rows 4 _ (λ k. desk-bytes _ (h.desk k))
-    and in_rows 256 _ (λ k. place-bytes _ (h.place k)) and zero-bytes worldRest and no_more)
+world_bytes w good =
+    let h = world_fits w good in
+    pieces (world_tables w)
+    (in_rows 8 _ (λ k. relay_bytes_lem _ (h.relay k)) and in_rows 4 _ (λ k. desk_bytes_lem _ (h.desk k))
+    and in_rows 256 _ (λ k. place_bytes_lem _ (h.place k)) and zero_bytes_lem world_rest and no_more)
 
 -- ---- as the test has it
 
-every_byte : (l : List ℕ) → Bytes l → T (every in-u8 l)
+every_byte : (l : List ℕ) → Bytes l → T (every in_u8 l)
 unfolding Bytes
 every_byte [] h = tt
 every_byte (x ∷ l) h = rw (lt-ltb x 256 h.0) (every_byte l h.1)
 
-bytes-slice : (l : List ℕ) → length l ≡ worldWidth → Bytes l → T (in_bytes l)
-bytes-slice l e h = rw e (every_byte l h)
+bytes_slice : (l : List ℕ) → length l ≡ world_width → Bytes l → T (in_bytes l)
+bytes_slice l e h = rw e (every_byte l h)
 
-pub image-bytes : (w : World) → wellFormed w ≡ true → T (in_bytes (image w))
-image-bytes w good = bytes-slice (image w) (length-image w) (world-bytes w good)
+pub image_bytes : (w : World) → well_formed w ≡ true → T (in_bytes (image w))
+image_bytes w good = bytes_slice (image w) (length-image w) (world_bytes w good)
 
-set-byte : (l : List ℕ) (k x : ℕ) → x < 256 → Bytes l → Bytes (set l k x)
+set_byte : (l : List ℕ) (k x : ℕ) → x < 256 → Bytes l → Bytes (set l k x)
 unfolding Bytes
-set-byte [] k x small h = h
-set-byte (y ∷ l) zero x small h = (small, h.1)
-set-byte (y ∷ l) (suc k) x small h = (h.0, set-byte l k x small h.1)
+set_byte [] k x small h = h
+set_byte (y ∷ l) zero x small h = (small, h.1)
+set_byte (y ∷ l) (suc k) x small h = (h.0, set_byte l k x small h.1)
 
 -- the same with one byte changed
-pub changed-bytes : (w : World) → wellFormed w ≡ true → (k x : ℕ) → x < 256 → T (in_bytes (set (image w) k x))
-changed-bytes w good k x small =
-    bytes-slice (set (image w) k x) (length-set (image w) k x ∙ length-image w) (set-byte (image w) k x small (world-bytes w good))
+pub changed_bytes : (w : World) → well_formed w ≡ true → (k x : ℕ) → x < 256 → T (in_bytes (set (image w) k x))
+changed_bytes w good k x small =
+    bytes_slice (set (image w) k x) (length-set (image w) k x ∙ length-image w) (set_byte (image w) k x small (world_bytes w good))

@@ -27,17 +27,17 @@ use Rattle.world.specs.declared.Report.TheVariants.{Nothing, Opened, ReadDone, W
 
 -- ---- numbers
 
-abbrev pub in-u8 : ℕ → Bool
-in-u8 n = ltb n 256
+abbrev pub in_u8 : ℕ → Bool
+in_u8 n = ltb n 256
 
-abbrev pub in-u16 : ℕ → Bool
-in-u16 n = ltb n 65536
+abbrev pub in_u16 : ℕ → Bool
+in_u16 n = ltb n 65536
 
-abbrev pub in-u32 : ℕ → Bool
-in-u32 n = ltb n 4294967296
+abbrev pub in_u32 : ℕ → Bool
+in_u32 n = ltb n 4294967296
 
-abbrev pub in-usize : ℕ → Bool
-in-usize n = ltb n 18446744073709551616
+abbrev pub in_usize : ℕ → Bool
+in_usize n = ltb n 18446744073709551616
 
 -- ---- lists: each entry passes; an array of n, and a slice, whose length is a usize
 
@@ -49,70 +49,70 @@ abbrev pub array : {A : Type 0} → ℕ → (A → Bool) → List A → Bool
 array n f l = eqb (length l) n && every f l
 
 abbrev pub slice : {A : Type 0} → (A → Bool) → List A → Bool
-slice f l = in-usize (length l) && every f l
+slice f l = in_usize (length l) && every f l
 
 abbrev pub in_bytes : List ℕ → Bool
-in_bytes l = slice in-u8 l
+in_bytes l = slice in_u8 l
 
-abbrev pub in-u32s : List ℕ → Bool
-in-u32s l = slice in-u32 l
+abbrev pub in_u32s : List ℕ → Bool
+in_u32s l = slice in_u32 l
 
 -- ---- structs
 
-abbrev pub in-Sequence : Sequence → Bool
-in-Sequence x = array 15 in-u16 x.views && in-usize x.len
+abbrev pub in_Sequence : Sequence → Bool
+in_Sequence x = array 15 in_u16 x.views && in_usize x.len
 
-abbrev pub in-Stamp : Stamp → Bool
-in-Stamp x = in-u16 x.count && in-u8 x.desk
+abbrev pub in_Stamp : Stamp → Bool
+in_Stamp x = in_u16 x.count && in_u8 x.desk
 
-abbrev pub in-Pair : Pair → Bool
-in-Pair x = in-Stamp x.stamp && in-u32 x.value
+abbrev pub in_Pair : Pair → Bool
+in_Pair x = in_Stamp x.stamp && in_u32 x.value
 
-abbrev pub in-Desk : Desk → Bool
-in-Desk x = in-u16 x.view && in-u16 x.tries && in-Pair x.holds && in-u8 x.replied && in-Pair x.best
+abbrev pub in_Desk : Desk → Bool
+in_Desk x = in_u16 x.view && in_u16 x.tries && in_Pair x.holds && in_u8 x.replied && in_Pair x.best
 
-abbrev pub in-Step : Step → Bool
-in-Step x = in-u8 x.kind && in-u8 x.id && in-u32 x.value
+abbrev pub in_Step : Step → Bool
+in_Step x = in_u8 x.kind && in_u8 x.id && in_u32 x.value
 
-abbrev pub in-Notes : Notes → Bool
-in-Notes x = array 8 in-Sequence x.of
+abbrev pub in_Notes : Notes → Bool
+in_Notes x = array 8 in_Sequence x.of
 
-abbrev pub in-Generator : Generator → Bool
-in-Generator x =
-    in-u16 x.view && in-Sequence x.own && in-Sequence x.converged && in-Sequence x.raised
-    && in-Notes x.proposals && in-Notes x.convergences
+abbrev pub in_Generator : Generator → Bool
+in_Generator x =
+    in_u16 x.view && in_Sequence x.own && in_Sequence x.converged && in_Sequence x.raised
+    && in_Notes x.proposals && in_Notes x.convergences
 
-abbrev pub in-Transfer : Transfer → Bool
-in-Transfer x = in-u16 x.old && in-u16 x.new && in-Sequence x.sequence && in-u8 x.senders && in-Pair x.best && in-u16 x.gathered
+abbrev pub in_Transfer : Transfer → Bool
+in_Transfer x = in_u16 x.old && in_u16 x.new && in_Sequence x.sequence && in_u8 x.senders && in_Pair x.best && in_u16 x.gathered
 
-abbrev pub in-Head : Head → Bool
-in-Head x = in-u16 x.view && in-u16 x.known && in-u16 x.pending && in-Pair x.holds
+abbrev pub in_Head : Head → Bool
+in_Head x = in_u16 x.view && in_u16 x.known && in_u16 x.pending && in_Pair x.holds
 
-abbrev pub in-Part : Part → Bool
-in-Part x = in-Head x.head && in-Generator x.generator && in-Transfer x.transfer
+abbrev pub in_Part : Part → Bool
+in_Part x = in_Head x.head && in_Generator x.generator && in_Transfer x.transfer
 
-abbrev pub in-Body : Body → Bool
-in-Body x =
-    in-u8 x.kind && in-u16 x.first && in-u16 x.second && in-u16 x.tries
-    && in-Sequence x.sequence && in-Pair x.pair && in-u16 x.updates
+abbrev pub in_Body : Body → Bool
+in_Body x =
+    in_u8 x.kind && in_u16 x.first && in_u16 x.second && in_u16 x.tries
+    && in_Sequence x.sequence && in_Pair x.pair && in_u16 x.updates
 
-abbrev pub in-Message : Message → Bool
-in-Message x = in-u8 x.from && in-u8 x.to && in-Body x.body
+abbrev pub in_Message : Message → Bool
+in_Message x = in_u8 x.from && in_u8 x.to && in_Body x.body
 
-abbrev pub in-Sending : Sending → Bool
-in-Sending x = in-Body x.body && in-u16 x.receivers
+abbrev pub in_Sending : Sending → Bool
+in_Sending x = in_Body x.body && in_u16 x.receivers
 
-abbrev pub in-Sendings : Sendings → Bool
-in-Sendings x = array 2 in-Sending x.of
+abbrev pub in_Sendings : Sendings → Bool
+in_Sendings x = array 2 in_Sending x.of
 
-abbrev pub in-Reader : Reader → Bool
-in-Reader x = in_bytes x.sheet.now && in-usize x.at
+abbrev pub in_Reader : Reader → Bool
+in_Reader x = in_bytes x.sheet.now && in_usize x.at
 
-abbrev pub in-Report : Report → Bool
-in-Report Nothing = true
-in-Report (Opened relay view) = in-u8 relay && in-u16 view
-in-Report (ReadDone desk pair) = in-u8 desk && in-Pair pair
-in-Report (WriteDone desk pair) = in-u8 desk && in-Pair pair
+abbrev pub in_Report : Report → Bool
+in_Report Nothing = true
+in_Report (Opened relay view) = in_u8 relay && in_u16 view
+in_Report (ReadDone desk pair) = in_u8 desk && in_Pair pair
+in_Report (WriteDone desk pair) = in_u8 desk && in_Pair pair
 
-abbrev pub in-Answer : Answer → Bool
-in-Answer x = in-u8 x.number && in-Report x.report
+abbrev pub in_Answer : Answer → Bool
+in_Answer x = in_u8 x.number && in_Report x.report

@@ -4,45 +4,45 @@
 -- Assumes nothing.
 use Rattle.std.specs.Prelude.{◌≡◌, List, ℕ}
 use Rattle.rules.specs.declared.Step.{Step}
-use Rattle.layout.specs.Lent.{lentStart, lentStep}
+use Rattle.layout.specs.Lent.{lent_start, lent_step}
 use Rattle.rules.specs.Sheets.{number}
 use Rattle.sheet.specs.declared.Sheet.{Sheet}
 use Rattle.sheet.specs.declared.Written.{Written}
 use Rattle.sheet.specs.declared.reader.Taken.{Taken}
-use Rattle.sheet.specs.Reading.{checkOf, takenAt}
-use Rattle.sheet.specs.Writing.{ruled, ruledSize, bufferOf, number_of, size_of}
+use Rattle.sheet.specs.Reading.{check_of, taken_at}
+use Rattle.sheet.specs.Writing.{ruled, ruled_size, buffer_of, number_of, size_of}
 use Rattle.world.specs.declared.Answer.{Answer}
 use Rattle.rehearsal.specs.declared.Rehearsed.{Rehearsed}
 use Rattle.world.specs.Answer.{lent_of}
-use Rattle.rehearsal.specs.Playing.{rehearseAnswer, worldLeft, recordLeft}
+use Rattle.rehearsal.specs.Playing.{rehearse_answer, world_left, record_left}
 
 pub record Code : Type 0 where
   -- world::step and world::start: the answer, and the world's buffer afterwards
   pub step : (w : List ℕ) (k : Step) → Answer
-  pub step-world : (w : List ℕ) (k : Step) → List ℕ
+  pub step_world : (w : List ℕ) (k : Step) → List ℕ
   pub start : (w : List ℕ) (mask : ℕ) → Answer
-  pub start-world : (w : List ℕ) (mask : ℕ) → List ℕ
+  pub start_world : (w : List ℕ) (mask : ℕ) → List ℕ
   -- sheet::check, and sheet::reader::read_at: one step, and the position past it
   pub check : (b : List ℕ) → Sheet
   pub read_at : (sheet : List ℕ) (at : ℕ) → Taken
   -- sheet::write: the answer, and the buffer afterwards
   pub write : (buf : List ℕ) (mask : ℕ) (kinds ids values : List ℕ) → Written
-  pub write-buf : (buf : List ℕ) (mask : ℕ) (kinds ids values : List ℕ) → List ℕ
+  pub write_buf : (buf : List ℕ) (mask : ℕ) (kinds ids values : List ℕ) → List ℕ
   -- rehearsal::rehearse: the answer, and both buffers afterwards
   pub rehearse : (sheet world out : List ℕ) → Rehearsed
-  pub rehearse-world : (sheet world out : List ℕ) → List ℕ
-  pub rehearse-out : (sheet world out : List ℕ) → List ℕ
+  pub rehearse_world : (sheet world out : List ℕ) → List ℕ
+  pub rehearse_out : (sheet world out : List ℕ) → List ℕ
 
 pub record Promised (c : Code) : Type 0 where
-  pub step_kept : (w : List ℕ) (k : Step) → lent_of (c.step w k) (c.step-world w k) ≡ lentStep w k
-  pub start-kept : (w : List ℕ) (mask : ℕ) → lent_of (c.start w mask) (c.start-world w mask) ≡ lentStart w mask
-  pub check-kept : (b : List ℕ) → c.check b ≡ checkOf b
-  pub read-at-kept : (sheet : List ℕ) (at : ℕ) → c.read_at sheet at ≡ takenAt sheet at
-  pub write-answer : (buf : List ℕ) (mask : ℕ) (kinds ids values : List ℕ)
+  pub step_kept : (w : List ℕ) (k : Step) → lent_of (c.step w k) (c.step_world w k) ≡ lent_step w k
+  pub start-kept : (w : List ℕ) (mask : ℕ) → lent_of (c.start w mask) (c.start_world w mask) ≡ lent_start w mask
+  pub check_kept : (b : List ℕ) → c.check b ≡ check_of b
+  pub read_at_kept : (sheet : List ℕ) (at : ℕ) → c.read_at sheet at ≡ taken_at sheet at
+  pub write_answer : (buf : List ℕ) (mask : ℕ) (kinds ids values : List ℕ)
       → (number_of (c.write buf mask kinds ids values) ≡ number (ruled buf mask kinds ids values))
-      × (size_of (c.write buf mask kinds ids values) ≡ ruledSize buf mask kinds ids values)
-  pub write-left : (buf : List ℕ) (mask : ℕ) (kinds ids values : List ℕ)
-      → c.write-buf buf mask kinds ids values ≡ bufferOf buf (ruled buf mask kinds ids values)
-  pub rehearse-answer : (sheet world out : List ℕ) → c.rehearse sheet world out ≡ rehearseAnswer sheet world out
-  pub rehearse-last : (sheet world out : List ℕ) → c.rehearse-world sheet world out ≡ worldLeft sheet world out
-  pub rehearse-printed : (sheet world out : List ℕ) → c.rehearse-out sheet world out ≡ recordLeft sheet world out
+      × (size_of (c.write buf mask kinds ids values) ≡ ruled_size buf mask kinds ids values)
+  pub write_left : (buf : List ℕ) (mask : ℕ) (kinds ids values : List ℕ)
+      → c.write_buf buf mask kinds ids values ≡ buffer_of buf (ruled buf mask kinds ids values)
+  pub rehearse_answer_lem : (sheet world out : List ℕ) → c.rehearse sheet world out ≡ rehearse_answer sheet world out
+  pub rehearse_last : (sheet world out : List ℕ) → c.rehearse_world sheet world out ≡ world_left sheet world out
+  pub rehearse_printed : (sheet world out : List ℕ) → c.rehearse_out sheet world out ≡ record_left sheet world out

@@ -5,16 +5,16 @@ use Rattle.std.specs.Prelude.{◌≡◌, Bool, not, List, [], ◌∷◌, ◌++�
 use Rattle.rules.specs.Sets.{◌||◌, if◌then◌else◌}
 use Rattle.rules.specs.Messages.{bad-world, bad-step, no_room, number}
 use Rattle.rules.specs.declared.Step.{Step}
-use Rattle.rules.specs.Steps.{noReport}
+use Rattle.rules.specs.Steps.{no_report}
 use Rattle.rules.specs.Table.{first_of, table}
-use Rattle.layout.specs.Layout.{worldWidth}
-use Rattle.layout.specs.Image.{worldAt, goodBytes}
-use Rattle.rules.specs.Sheets.{version1, steps_of, badSheet, sheetWidth}
+use Rattle.layout.specs.Layout.{world_width}
+use Rattle.layout.specs.Image.{world_at, good_bytes}
+use Rattle.rules.specs.Sheets.{version1, steps_of, bad_sheet, sheet_width}
 use Rattle.rules.specs.Sheets as sheets
-use Rattle.rules.specs.Runs.{longest, badOf}
+use Rattle.rules.specs.Runs.{longest, bad_of}
 use Rattle.sheet.specs.declared.Sheet.{Sheet}
 use Rattle.sheet.specs.Writing.{unequal, number_of, size_of}
-use Rattle.world.specs.Answer.{reportOf}
+use Rattle.world.specs.Answer.{report_of}
 use Rattle.certificate.specs.Code.{Code, Promised}
 
 -- ---- the rows of document 01's table that a call can meet, in the order in which they are checked
@@ -26,29 +26,29 @@ abbrev pub BAD-SHEET : ℕ
 BAD-SHEET = sheets.number sheets.bad-sheet
 
 -- BAD WORLD: "world not good"; then rows 2 to 8, with document 01's own conditions (rules/specs/Table)
-abbrev pub stepRows : List ℕ → Step → Rows
-stepRows w k = (not (goodBytes w), number bad-world) ∷ table (worldAt w) k
+abbrev pub step_rows : List ℕ → Step → Rows
+step_rows w k = (not (good_bytes w), number bad-world) ∷ table (world_at w) k
 
 -- BAD WORLD: "at a start, wrong length"; BAD STEP: "start mask 0" (a mask above 255 is none either)
-abbrev pub startRows : List ℕ → ℕ → Rows
-startRows w mask = (not (eqb (length w) worldWidth), number bad-world) ∷ (eqb mask 0 || leb 256 mask, number bad-step) ∷ []
+abbrev pub start_rows : List ℕ → ℕ → Rows
+start_rows w mask = (not (eqb (length w) world_width), number bad-world) ∷ (eqb mask 0 || leb 256 mask, number bad-step) ∷ []
 
 -- "BAD SHEET: under six bytes, wrong mark, version, mask 0, a part step, non-zero in the two bytes, over 8,000 steps."
-abbrev pub checkRows : List ℕ → Rows
-checkRows b = (badSheet b, BAD-SHEET) ∷ []
+abbrev pub check_rows : List ℕ → Rows
+check_rows b = (bad_sheet b, BAD-SHEET) ∷ []
 
 -- "BAD SHEET for mask 0 or over 8,000 steps" (and for three slices that are not of one length), "then NO ROOM": six bytes, "then 8 bytes a step"
-abbrev pub writeRows : List ℕ → ℕ → List ℕ → List ℕ → List ℕ → Rows
-writeRows buf mask kinds ids values =
-    (unequal kinds ids values || eqb mask 0 || ltb version1.mostSteps (length kinds), BAD-SHEET)
-    ∷ (ltb (length buf) (sheetWidth version1 (length kinds)), number no_room)
+abbrev pub write_rows : List ℕ → ℕ → List ℕ → List ℕ → List ℕ → Rows
+write_rows buf mask kinds ids values =
+    (unequal kinds ids values || eqb mask 0 || ltb version1.most_steps (length kinds), BAD-SHEET)
+    ∷ (ltb (length buf) (sheet_width version1 (length kinds)), number no_room)
     ∷ []
 
 -- BAD WORLD as at a start; BAD SHEET; NO ROOM: less room than the longest record of so many steps takes
-abbrev pub rehearseRows : List ℕ → List ℕ → List ℕ → Rows
-rehearseRows sheet world out =
-    (not (eqb (length world) worldWidth), number bad-world)
-    ∷ (badSheet sheet, BAD-SHEET)
+abbrev pub rehearse_rows : List ℕ → List ℕ → List ℕ → Rows
+rehearse_rows sheet world out =
+    (not (eqb (length world) world_width), number bad-world)
+    ∷ (bad_sheet sheet, BAD-SHEET)
     ∷ (ltb (length out) (longest (steps_of sheet)), number no_room)
     ∷ []
 
@@ -60,30 +60,30 @@ pub record Numbered (answer : ℕ) (rows : Rows) : Type 0 where
   pub first : answer ≡ first_of rows
 
 -- "For BAD SHEET it prints `bad 9` only.": the one record of a refusal, whole at the front of the record's buffer, or not at all
-abbrev pub refusedRecord : ℕ → List ℕ → List ℕ
-refusedRecord answer out = if eqb answer BAD-SHEET then (if ltb (length out) (length badOf) then [] else badOf) else []
+abbrev pub refused_record : ℕ → List ℕ → List ℕ
+refused_record answer out = if eqb answer BAD-SHEET then (if ltb (length out) (length bad_of) then [] else bad_of) else []
 
 -- the number of a check's answer
-abbrev pub checkNumber : Sheet → ℕ
-checkNumber s = if s.bad then BAD-SHEET else 0
+abbrev pub check_number : Sheet → ℕ
+check_number s = if s.bad then BAD-SHEET else 0
 
 pub record Demand1 (c : Code) : Type 0 where
-  pub step : (w : List ℕ) (k : Step) → Numbered (c.step w k).number (stepRows w k)
-  pub start : (w : List ℕ) (mask : ℕ) → Numbered (c.start w mask).number (startRows w mask)
-  pub check : (b : List ℕ) → Numbered (checkNumber (c.check b)) (checkRows b)
+  pub step : (w : List ℕ) (k : Step) → Numbered (c.step w k).number (step_rows w k)
+  pub start : (w : List ℕ) (mask : ℕ) → Numbered (c.start w mask).number (start_rows w mask)
+  pub check : (b : List ℕ) → Numbered (check_number (c.check b)) (check_rows b)
   pub write : (buf : List ℕ) (mask : ℕ) (kinds ids values : List ℕ)
-      → Numbered (number_of (c.write buf mask kinds ids values)) (writeRows buf mask kinds ids values)
-  pub rehearse : (sheet world out : List ℕ) → Numbered (c.rehearse sheet world out).answer (rehearseRows sheet world out)
+      → Numbered (number_of (c.write buf mask kinds ids values)) (write_rows buf mask kinds ids values)
+  pub rehearse : (sheet world out : List ℕ) → Numbered (c.rehearse sheet world out).answer (rehearse_rows sheet world out)
   -- "All but 0 report event 0 with zero fields and change nothing."
-  pub step_kept : (w : List ℕ) (k : Step) → 0 < (c.step w k).number → (c.step-world w k ≡ w) × (reportOf (c.step w k).report ≡ noReport)
-  pub start-kept : (w : List ℕ) (mask : ℕ) → 0 < (c.start w mask).number → (c.start-world w mask ≡ w) × (reportOf (c.start w mask).report ≡ noReport)
-  pub check-kept : (b : List ℕ) → 0 < checkNumber (c.check b) → ((c.check b).mask ≡ 0) × ((c.check b).steps ≡ 0)
+  pub step_kept : (w : List ℕ) (k : Step) → 0 < (c.step w k).number → (c.step_world w k ≡ w) × (report_of (c.step w k).report ≡ no_report)
+  pub start-kept : (w : List ℕ) (mask : ℕ) → 0 < (c.start w mask).number → (c.start_world w mask ≡ w) × (report_of (c.start w mask).report ≡ no_report)
+  pub check_kept : (b : List ℕ) → 0 < check_number (c.check b) → ((c.check b).mask ≡ 0) × ((c.check b).steps ≡ 0)
   pub write_kept : (buf : List ℕ) (mask : ℕ) (kinds ids values : List ℕ) → 0 < number_of (c.write buf mask kinds ids values)
-      → (c.write-buf buf mask kinds ids values ≡ buf) × (size_of (c.write buf mask kinds ids values) ≡ 0)
-  pub world-kept : (sheet world out : List ℕ) → 0 < (c.rehearse sheet world out).answer → c.rehearse-world sheet world out ≡ world
+      → (c.write_buf buf mask kinds ids values ≡ buf) × (size_of (c.write buf mask kinds ids values) ≡ 0)
+  pub world_kept : (sheet world out : List ℕ) → 0 < (c.rehearse sheet world out).answer → c.rehearse_world sheet world out ≡ world
   -- and but for the record of a bad sheet, so does the record's buffer; its length is told
-  pub out-kept : (sheet world out : List ℕ) → 0 < (c.rehearse sheet world out).answer → let l = refusedRecord (c.rehearse sheet world out).answer out in
-      (c.rehearse-out sheet world out ≡ l ++ drop (length l) out) × ((c.rehearse sheet world out).length ≡ length l)
+  pub out_kept : (sheet world out : List ℕ) → 0 < (c.rehearse sheet world out).answer → let l = refused_record (c.rehearse sheet world out).answer out in
+      (c.rehearse_out sheet world out ≡ l ++ drop (length l) out) × ((c.rehearse sheet world out).length ≡ length l)
 
 -- of every program that keeps the promises of the sources
 abbrev pub Demand1ForAll : Type 0

@@ -3,32 +3,32 @@
 use Rattle.std.specs.Prelude.{◌≡◌, true, false, List, [], ◌∷◌, ◌++◌, map, ℕ, zero, suc, ◌≤◌, ◌<◌, length, get_or, take, drop}
 use Rattle.rules.specs.State.{start}
 use Rattle.rules.specs.declared.Step.{Step}
-use Rattle.rules.specs.Steps.{Outcome, noReport, after, report, stepped}
-use Rattle.layout.specs.Layout.{worldWidth}
-use Rattle.layout.specs.Image.{image, worldAt, goodBytes}
-use Rattle.rules.specs.Sheets.{version1, sheet, sheetIn, sheetWidth}
-use Rattle.rules.specs.Runs.{outcomes, lastWorld, answer, fields, printed, longest}
+use Rattle.rules.specs.Steps.{Outcome, no_report, after, report, stepped}
+use Rattle.layout.specs.Layout.{world_width}
+use Rattle.layout.specs.Image.{image, world_at, good_bytes}
+use Rattle.rules.specs.Sheets.{version1, sheet, sheet_in, sheet_width}
+use Rattle.rules.specs.Runs.{outcomes, last_world, answer, fields, printed, longest}
 use Rattle.sheet.specs.declared.Found.{Found}
 use Rattle.sheet.specs.declared.Found.TheVariants.{At, End}
-use Rattle.sheet.specs.Reading.{frontOf}
-use Rattle.sheet.specs.Writing.{kindsOf, ids_of, values_of, number_of, size_of}
-use Rattle.world.specs.Answer.{columns, reportOf}
+use Rattle.sheet.specs.Reading.{front_of}
+use Rattle.sheet.specs.Writing.{kinds_of, ids_of, values_of, number_of, size_of}
+use Rattle.world.specs.Answer.{columns, report_of}
 use Rattle.certificate.specs.Code.{Code, Promised}
 
 -- ---- a run of the program: each step is put to what the one before left
 
-unfoldable pub ranBy : Code → List ℕ → List Step → List ℕ
-ranBy c w [] = w
-ranBy c w (k ∷ ks) = ranBy c (c.step-world w k) ks
+unfoldable pub ran_by : Code → List ℕ → List Step → List ℕ
+ran_by c w [] = w
+ran_by c w (k ∷ ks) = ran_by c (c.step_world w k) ks
 
 -- of each answer, what a line of the record says of it: the answer's number, the event and its columns
-unfoldable pub toldBy : Code → List ℕ → List Step → List (List ℕ)
-toldBy c w [] = []
-toldBy c w (k ∷ ks) = columns (c.step w k) ∷ toldBy c (c.step-world w k) ks
+unfoldable pub told_by : Code → List ℕ → List Step → List (List ℕ)
+told_by c w [] = []
+told_by c w (k ∷ ks) = columns (c.step w k) ∷ told_by c (c.step_world w k) ks
 
 -- the same of an outcome of the rules
-abbrev pub outcomeLine : Outcome → List ℕ
-outcomeLine o = answer o ∷ fields (report o).event (report o).who
+abbrev pub outcome_line : Outcome → List ℕ
+outcome_line o = answer o ∷ fields (report o).event (report o).who
 
 -- ---- a sheet, read by the program: "It is read from the front one step at a time."
 
@@ -38,13 +38,13 @@ before (At k) rest = k ∷ rest
 before End rest = []
 
 -- at most n steps, from a position on
-unfoldable pub readFrom : Code → ℕ → List ℕ → ℕ → List Step
-readFrom c zero b at = []
-readFrom c (suc n) b at = before (c.read_at b at).found (readFrom c n b (c.read_at b at).at)
+unfoldable pub read_from : Code → ℕ → List ℕ → ℕ → List Step
+read_from c zero b at = []
+read_from c (suc n) b at = before (c.read_at b at).found (read_from c n b (c.read_at b at).at)
 
 -- the steps from the first on, until the end is found (no sheet has as many steps as bytes)
 abbrev pub read_by : Code → List ℕ → List Step
-read_by c b = readFrom c (length b) b (frontOf b)
+read_by c b = read_from c (length b) b (front_of b)
 
 -- numbers below n, as a slice of the code's has them
 abbrev pub Below : ℕ → List ℕ → Type 0
@@ -54,41 +54,41 @@ Below n l = (i : ℕ) → get_or l i 0 < n
 
 pub record Demand2 (c : Code) : Type 0 where
   -- a start is done in any buffer of the right length, and leaves the image of the rules' start
-  pub started : (w : List ℕ) (mask : ℕ) → length w ≡ worldWidth → 0 < mask → mask < 256
-      → ((c.start w mask).number ≡ 0) × (reportOf (c.start w mask).report ≡ noReport) × (c.start-world w mask ≡ image (start mask))
+  pub started : (w : List ℕ) (mask : ℕ) → length w ≡ world_width → 0 < mask → mask < 256
+      → ((c.start w mask).number ≡ 0) × (report_of (c.start w mask).report ≡ no_report) × (c.start_world w mask ≡ image (start mask))
   -- an accepted step was put to a good world; it leaves the image of what the rules make of that, and reports what they report
   pub accepted : (w : List ℕ) (k : Step) → (c.step w k).number ≡ 0
-      → (goodBytes w ≡ true) × (c.step-world w k ≡ image (after (worldAt w) (stepped (worldAt w) k)))
-      × (reportOf (c.step w k).report ≡ report (stepped (worldAt w) k))
+      → (good_bytes w ≡ true) × (c.step_world w k ≡ image (after (world_at w) (stepped (world_at w) k)))
+      × (report_of (c.step w k).report ≡ report (stepped (world_at w) k))
   -- and so through any run, refused steps in it or not, from any good world
-  pub run : (w : List ℕ) → goodBytes w ≡ true → (ks : List Step)
-      → (ranBy c w ks ≡ image (lastWorld (worldAt w) ks)) × (toldBy c w ks ≡ map outcomeLine (outcomes (worldAt w) ks))
+  pub run : (w : List ℕ) → good_bytes w ≡ true → (ks : List Step)
+      → (ran_by c w ks ≡ image (last_world (world_at w) ks)) × (told_by c w ks ≡ map outcome_line (outcomes (world_at w) ks))
   -- and from any start
-  pub run-started : (w : List ℕ) (mask : ℕ) → length w ≡ worldWidth → 0 < mask → mask < 256 → (ks : List Step)
-      → (ranBy c (c.start-world w mask) ks ≡ image (lastWorld (start mask) ks))
-      × (toldBy c (c.start-world w mask) ks ≡ map outcomeLine (outcomes (start mask) ks))
+  pub run_started : (w : List ℕ) (mask : ℕ) → length w ≡ world_width → 0 < mask → mask < 256 → (ks : List Step)
+      → (ran_by c (c.start_world w mask) ks ≡ image (last_world (start mask) ks))
+      × (told_by c (c.start_world w mask) ks ≡ map outcome_line (outcomes (start mask) ks))
   -- a sheet is run where there is room for its record: that leaves the image of its last world, and its record whole at the front of the record's buffer
-  pub rehearsed : (b world out : List ℕ) (mask : ℕ) (ks : List Step) → sheetIn b ≡ sheet mask ks → length world ≡ worldWidth → longest (length ks) ≤ length out
+  pub rehearsed : (b world out : List ℕ) (mask : ℕ) (ks : List Step) → sheet_in b ≡ sheet mask ks → length world ≡ world_width → longest (length ks) ≤ length out
       → ((c.rehearse b world out).answer ≡ 0)
       × ((c.rehearse b world out).length ≡ length (printed mask ks))
-      × (c.rehearse-world b world out ≡ image (lastWorld (start mask) ks))
-      × (c.rehearse-out b world out ≡ printed mask ks ++ drop (length (printed mask ks)) out)
+      × (c.rehearse_world b world out ≡ image (last_world (start mask) ks))
+      × (c.rehearse_out b world out ≡ printed mask ks ++ drop (length (printed mask ks)) out)
   -- what is checked and read of an accepted sheet is document 01's: its mask, its steps, and how many they are
-  pub sheet-read : (b : List ℕ) → (c.check b).bad ≡ false → (sheetIn b ≡ sheet (c.check b).mask (read_by c b)) × ((c.check b).steps ≡ length (read_by c b))
+  pub sheet_read : (b : List ℕ) → (c.check b).bad ≡ false → (sheet_in b ≡ sheet (c.check b).mask (read_by c b)) × ((c.check b).steps ≡ length (read_by c b))
   -- an accepted sheet, checked, read step by step and written again, gives the same bytes
-  pub sheet-again : (b buf : List ℕ) → Below 256 b → (c.check b).bad ≡ false → length b ≤ length buf
-      → let ks = read_by c b in let r = c.write buf (c.check b).mask (kindsOf ks) (ids_of ks) (values_of ks) in
-      (number_of r ≡ 0) × (size_of r ≡ length b) × (c.write-buf buf (c.check b).mask (kindsOf ks) (ids_of ks) (values_of ks) ≡ b ++ drop (length b) buf)
+  pub sheet_again : (b buf : List ℕ) → Below 256 b → (c.check b).bad ≡ false → length b ≤ length buf
+      → let ks = read_by c b in let r = c.write buf (c.check b).mask (kinds_of ks) (ids_of ks) (values_of ks) in
+      (number_of r ≡ 0) × (size_of r ≡ length b) × (c.write_buf buf (c.check b).mask (kinds_of ks) (ids_of ks) (values_of ks) ≡ b ++ drop (length b) buf)
   -- up to 8,000 steps in slices, written and read, give the same slices
-  pub sheet-back : (buf : List ℕ) (mask : ℕ) (kinds ids values : List ℕ) → 0 < mask → mask < 256
-      → length ids ≡ length kinds → length values ≡ length kinds → length kinds ≤ version1.mostSteps
+  pub sheet_back : (buf : List ℕ) (mask : ℕ) (kinds ids values : List ℕ) → 0 < mask → mask < 256
+      → length ids ≡ length kinds → length values ≡ length kinds → length kinds ≤ version1.most_steps
       → Below 256 kinds → Below 256 ids → Below 4294967296 values
-      → sheetWidth version1 (length kinds) ≤ length buf
-      → let b = take (sheetWidth version1 (length kinds)) (c.write-buf buf mask kinds ids values) in
+      → sheet_width version1 (length kinds) ≤ length buf
+      → let b = take (sheet_width version1 (length kinds)) (c.write_buf buf mask kinds ids values) in
       (number_of (c.write buf mask kinds ids values) ≡ 0)
-      × (size_of (c.write buf mask kinds ids values) ≡ sheetWidth version1 (length kinds))
+      × (size_of (c.write buf mask kinds ids values) ≡ sheet_width version1 (length kinds))
       × (c.check b ≡ record { bad = false; mask = mask; steps = length kinds })
-      × (kindsOf (read_by c b) ≡ kinds) × (ids_of (read_by c b) ≡ ids) × (values_of (read_by c b) ≡ values)
+      × (kinds_of (read_by c b) ≡ kinds) × (ids_of (read_by c b) ≡ ids) × (values_of (read_by c b) ≡ values)
 
 -- of every program that keeps the promises of the sources
 abbrev pub Demand2ForAll : Type 0

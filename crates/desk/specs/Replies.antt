@@ -3,8 +3,8 @@ use Rattle.std.specs.Prelude.{ℕ, ltb}
 use Rattle.stamps.specs.declared.Pair.{Pair}
 use Rattle.rules.specs.declared.Desk.{Desk}
 use Rattle.rules.specs.Sets.{if◌then◌else◌}
-use Rattle.rules.specs.Desks.{notesPair}
+use Rattle.rules.specs.Desks.{notes_pair}
 
 -- the relays 0 to 7 are noted; of any other number nothing is, and the desk stays as it is
-unfoldable pub replyNoted : Desk → ℕ → Pair → Desk
-replyNoted d from p = if ltb from 8 then notesPair d from p else d
+unfoldable pub reply_noted : Desk → ℕ → Pair → Desk
+reply_noted d from p = if ltb from 8 then notes_pair d from p else d

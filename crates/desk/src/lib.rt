@@ -1,12 +1,12 @@
 // Document 01, "Delivery at a desk", and READ and WRITE: what a desk answers to each thing that is put to it.
 ghost use Rattle.std.specs.Prelude.{◌≡◌, [], ◌<◌};
 ghost use Rattle.rules.specs.Sets.{if◌then◌else◌, inside};
-ghost use Rattle.rules.specs.Messages.{Refusal, number, not-now, refused, does, quietly};
-ghost use Rattle.rules.specs.State.{noDesk};
+ghost use Rattle.rules.specs.Messages.{Refusal, number, not_now, refused, does, quietly};
+ghost use Rattle.rules.specs.State.{no_desk};
 ghost use Rattle.rules.specs.Desks as rule;
-ghost use Rattle.state.specs.Meaning.{body_of, eventOf};
-ghost use Rattle.state.specs.Plans.{planned, deskPlanOf};
-ghost use Rattle.desk.specs.Replies.{replyNoted};
+ghost use Rattle.state.specs.Meaning.{body_of, event_of};
+ghost use Rattle.state.specs.Plans.{planned, desk_plan_of};
+ghost use Rattle.desk.specs.Replies.{reply_noted};
 
 use rules::{Desk, Phase};
 use stamps::{Pair, Stamp};
@@ -14,7 +14,7 @@ use state::{Body, DeskPlan, Event};
 
 // Refusals "change nothing": all but the number is blank.
 fn refuses(answer: u8) -> DeskPlan
-    ensures { (x : Refusal) → answer ≡ number x → deskPlanOf result ≡ planned noDesk (refused x) }
+    ensures { (x : Refusal) → answer ≡ number x → desk_plan_of result ≡ planned no_desk (refused x) }
 {
     let none = stamps::fresh();
     let desk = Desk {
@@ -36,7 +36,7 @@ fn refuses(answer: u8) -> DeskPlan
 }
 
 fn tells(d: Desk, event: Event) -> DeskPlan
-    ensures { deskPlanOf result ≡ planned noDesk (does d [] (eventOf event)) }
+    ensures { desk_plan_of result ≡ planned no_desk (does d [] (event_of event)) }
 {
     DeskPlan {
         answer: 0,
@@ -47,13 +47,13 @@ fn tells(d: Desk, event: Event) -> DeskPlan
 }
 
 fn does_nothing(d: Desk) -> DeskPlan
-    ensures { deskPlanOf result ≡ planned noDesk (quietly d) }
+    ensures { desk_plan_of result ≡ planned no_desk (quietly d) }
 {
     tells(d, Event::Nothing)
 }
 
 fn is_idle(phase: Phase) -> bool
-    ensures { result ≡ rule.isIdle phase }
+    ensures { result ≡ rule.is_idle phase }
 {
     match phase {
         Phase::Idle => true,
@@ -65,7 +65,7 @@ fn is_idle(phase: Phase) -> bool
 }
 
 fn is_first(phase: Phase) -> bool
-    ensures { result ≡ rule.isFirst phase }
+    ensures { result ≡ rule.is_first phase }
 {
     match phase {
         Phase::Idle => false,
@@ -77,7 +77,7 @@ fn is_first(phase: Phase) -> bool
 }
 
 fn is_second(phase: Phase) -> bool
-    ensures { result ≡ rule.isSecond phase }
+    ensures { result ≡ rule.is_second phase }
 {
     match phase {
         Phase::Idle => false,
@@ -99,7 +99,7 @@ fn asks(phase: Phase, tries: u16, v: u16, p: Pair) -> Body
 
 // "Each phase begins by adding 1 to the try, clearing the replies and sending to all members of the desk's view"
 fn begins(d: Desk, phase: Phase, v: u16, p: Pair) -> DeskPlan
-    ensures { deskPlanOf result ≡ planned noDesk (rule.begins d phase v p) }
+    ensures { desk_plan_of result ≡ planned no_desk (rule.begins d phase v p) }
 {
     if 65535 <= d.tries {
         return refuses(rules::WORN);
@@ -116,7 +116,7 @@ fn begins(d: Desk, phase: Phase, v: u16, p: Pair) -> DeskPlan
 
 // "READ and WRITE are NOT NOW unless the desk is idle."
 fn asked(d: Desk, phase: Phase, p: Pair) -> DeskPlan
-    ensures { deskPlanOf result ≡ planned noDesk (if rule.isIdle d.phase then rule.begins d phase d.view p else refused not-now) }
+    ensures { desk_plan_of result ≡ planned no_desk (if rule.is_idle d.phase then rule.begins d phase d.view p else refused not_now) }
 {
     let now = d.phase;
     if !is_idle(now) {
@@ -126,13 +126,13 @@ fn asked(d: Desk, phase: Phase, p: Pair) -> DeskPlan
 }
 
 pub fn read_asked(d: Desk) -> DeskPlan
-    ensures { deskPlanOf result ≡ planned noDesk (rule.readAsked d) }
+    ensures { desk_plan_of result ≡ planned no_desk (rule.read_asked d) }
 {
     asked(d, Phase::Read1, stamps::fresh())
 }
 
 pub fn write_asked(d: Desk, x: u32) -> DeskPlan
-    ensures { deskPlanOf result ≡ planned noDesk (rule.writeAsked d x) }
+    ensures { desk_plan_of result ≡ planned no_desk (rule.write_asked d x) }
 {
     let mut p = stamps::fresh();
     p.value = x;
@@ -155,7 +155,7 @@ fn current(d: Desk, from: u8, tries: u16) -> bool
 
 // "A view reply that strictly includes the desk's view is adopted and the phase starts again; any other does nothing."
 fn view_came(d: Desk, v: u16) -> DeskPlan
-    ensures { deskPlanOf result ≡ planned noDesk (if inside d.view v then rule.begins d d.phase v d.holds else quietly d) }
+    ensures { desk_plan_of result ≡ planned no_desk (if inside d.view v then rule.begins d d.phase v d.holds else quietly d) }
 {
     if !views::inside(d.view, v) {
         return does_nothing(d);
@@ -168,7 +168,7 @@ fn view_came(d: Desk, v: u16) -> DeskPlan
 // "an acknowledgement sets only who replied."
 fn notes_ack(d: Desk, from: u8) -> Desk
     requires { from < 8 }
-    ensures { result ≡ rule.notesAck d from }
+    ensures { result ≡ rule.notes_ack d from }
 {
     let mut next = d;
     next.replied = d.replied | (1u8 << from);
@@ -177,7 +177,7 @@ fn notes_ack(d: Desk, from: u8) -> Desk
 
 // One comparison tells whether the reply is the best, and whether it agrees with those before. Only the relays 0 to 7 have a bit to be noted by.
 fn notes_pair(d: Desk, from: u8, p: Pair) -> Desk
-    ensures { result ≡ replyNoted d from p }
+    ensures { result ≡ reply_noted d from p }
 {
     if 8 <= from {
         return d;
@@ -195,14 +195,14 @@ fn notes_pair(d: Desk, from: u8, p: Pair) -> Desk
 // "who replied, best reply, whether all stamps agreed": the one thin function that notes a reply in a desk record lent by &mut. Its
 // work is done by value, above; what is left, from the lent record and back into it, is proved by hand.
 pub fn note_reply(desk: &mut Desk, from: u8, p: Pair)
-    ensures { desk.new ≡ replyNoted desk.old from p }
+    ensures { desk.new ≡ reply_noted desk.old from p }
 {
     *desk = notes_pair(*desk, from, p);
 }
 
 // Lends a record that came by value. Its own parameters are plain, so the proofs by hand end here.
 fn with_reply(d: Desk, from: u8, p: Pair) -> Desk
-    ensures { result ≡ replyNoted d from p }
+    ensures { result ≡ reply_noted d from p }
 {
     let mut held = d;
     note_reply(&mut held, from, p);
@@ -211,14 +211,14 @@ fn with_reply(d: Desk, from: u8, p: Pair) -> Desk
 
 // "Idle, only alive, view and try stay."
 fn ends(d: Desk, event: Event) -> DeskPlan
-    ensures { deskPlanOf result ≡ planned noDesk (does (rule.ended d) [] (eventOf event)) }
+    ensures { desk_plan_of result ≡ planned no_desk (does (rule.ended d) [] (event_of event)) }
 {
     tells(d.ended(), event)
 }
 
 // "write 1 takes (greatest count + 1, own number) and starts write 2"
 fn takes_stamp(n: u8, d: Desk) -> DeskPlan
-    ensures { deskPlanOf result ≡ planned noDesk (rule.takesStamp n d) }
+    ensures { desk_plan_of result ≡ planned no_desk (rule.takes_stamp n d) }
 {
     let count = d.best.stamp.count;
     if 65535 <= count {
@@ -236,7 +236,7 @@ fn takes_stamp(n: u8, d: Desk) -> DeskPlan
 }
 
 fn completes(n: u8, d: Desk) -> DeskPlan
-    ensures { deskPlanOf result ≡ planned noDesk (rule.completes n d d.phase) }
+    ensures { desk_plan_of result ≡ planned no_desk (rule.completes n d d.phase) }
 {
     let phase = d.phase;
     let holds = d.holds;
@@ -257,7 +257,7 @@ fn completes(n: u8, d: Desk) -> DeskPlan
 
 // "At a quorum of replies"
 fn counted(n: u8, d: Desk) -> DeskPlan
-    ensures { deskPlanOf result ≡ planned noDesk (rule.counted n d) }
+    ensures { desk_plan_of result ≡ planned no_desk (rule.counted n d) }
 {
     if !views::reaches(d.view, d.replied) {
         return does_nothing(d);
@@ -266,7 +266,7 @@ fn counted(n: u8, d: Desk) -> DeskPlan
 }
 
 fn pair_came(n: u8, d: Desk, from: u8, p: Pair) -> DeskPlan
-    ensures { deskPlanOf result ≡ planned noDesk (if rule.isFirst d.phase then rule.counted n (replyNoted d from p) else quietly d) }
+    ensures { desk_plan_of result ≡ planned no_desk (if rule.is_first d.phase then rule.counted n (reply_noted d from p) else quietly d) }
 {
     let phase = d.phase;
     if !is_first(phase) {
@@ -277,7 +277,7 @@ fn pair_came(n: u8, d: Desk, from: u8, p: Pair) -> DeskPlan
 
 fn ack_came(n: u8, d: Desk, from: u8) -> DeskPlan
     requires { from < 8 }
-    ensures { deskPlanOf result ≡ planned noDesk (if rule.isSecond d.phase then rule.counted n (rule.notesAck d from) else quietly d) }
+    ensures { desk_plan_of result ≡ planned no_desk (if rule.is_second d.phase then rule.counted n (rule.notes_ack d from) else quietly d) }
 {
     let phase = d.phase;
     if !is_second(phase) {
@@ -288,7 +288,7 @@ fn ack_came(n: u8, d: Desk, from: u8) -> DeskPlan
 
 // What comes to the desk n. The kinds from request to put are no replies; a number that is no kind is an acknowledgement.
 pub fn hears(n: u8, d: Desk, from: u8, b: Body) -> DeskPlan
-    ensures { deskPlanOf result ≡ planned noDesk (rule.deskHears n d from (body_of b)) }
+    ensures { desk_plan_of result ≡ planned no_desk (rule.desk_hears n d from (body_of b)) }
 {
     let kind = b.kind;
     if (layout::REQUEST <= kind) & (kind <= layout::PUT) {

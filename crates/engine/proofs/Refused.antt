@@ -8,35 +8,35 @@ use borrow.Author.Tests.{ne_eqb}
 use Rattle.views.proofs.Truth.{cases}
 use Rattle.rows.specs.Bytes.{be32}
 use Rattle.rules.specs.Sets.{if◌then◌else◌}
-use Rattle.layout.specs.Layout.{worldWidth}
-use Rattle.layout.specs.Image.{worldAt, goodBytes}
+use Rattle.layout.specs.Layout.{world_width}
+use Rattle.layout.specs.Image.{world_at, good_bytes}
 use Rattle.rules.specs.Steps.{Outcome, refusal, done, stepped}
-use Rattle.layout.specs.Lent.{Lent, left, lentStart, lentStep}
+use Rattle.layout.specs.Lent.{Lent, left, lent_start, lent_step}
 use Rattle.rules.specs.Sheets.{Written, wrote, number}
 use Rattle.rules.specs.Sheets as sheets
-use Rattle.sheet.specs.Writing.{bufferOf}
-use Rattle.world.specs.Tracing.{Ruling, bad-world, bad-sheet, no_room, runs, worldBy}
-use Rattle.rehearsal.specs.Playing.{decided, answerBy, laidBy, rehearseAnswer, worldLeft, recordLeft}
-use Rattle.engine.specs.Told.{columnsWide, Stepped, telling, toldStep, lengthWide, Rehearsal, toldRehearsal}
+use Rattle.sheet.specs.Writing.{buffer_of}
+use Rattle.world.specs.Tracing.{Ruling, bad-world, bad-sheet, no_room, runs, world_by}
+use Rattle.rehearsal.specs.Playing.{decided, answer_by, laid_by, rehearse_answer, world_left, record_left}
+use Rattle.engine.specs.Told.{columns_wide, Stepped, telling, told_step, length_wide, Rehearsal, told_rehearsal}
 
 -- where the answer is not 0, the buffer is b
 Unmoved : List ℕ → Lent → Type 0
 Unmoved b l = (l.answer ≡ 0 → ⊥) → l.buffer ≡ b
 
-outcome-unmoved : (b : List ℕ) (o : Outcome) → Unmoved b (left b o)
+outcome_unmoved : (b : List ℕ) (o : Outcome) → Unmoved b (left b o)
 unfolding Unmoved
-outcome-unmoved b (refusal x) z = refl
-outcome-unmoved b (done w e sent delivered dropped) z = absurd (z refl)
+outcome_unmoved b (refusal x) z = refl
+outcome_unmoved b (done w e sent delivered dropped) z = absurd (z refl)
 
-step-unmoved : (w : List ℕ) (kind id value : ℕ) → Unmoved w (lentStep w (record { kind = kind; id = id; value = value }))
-unfolding lentStep Unmoved
-step-unmoved w kind id value =
-    cases (Unmoved w) (goodBytes w) (λ _. outcome-unmoved w (stepped (worldAt w) (record { kind = kind; id = id; value = value }))) (λ _ z. refl)
+step_unmoved : (w : List ℕ) (kind id value : ℕ) → Unmoved w (lent_step w (record { kind = kind; id = id; value = value }))
+unfolding lent_step Unmoved
+step_unmoved w kind id value =
+    cases (Unmoved w) (good_bytes w) (λ _. outcome_unmoved w (stepped (world_at w) (record { kind = kind; id = id; value = value }))) (λ _ z. refl)
 
-pub start-kept : (w : List ℕ) (mask : ℕ) → ((lentStart w mask).answer ≡ 0 → ⊥) → (lentStart w mask).buffer ≡ w
-unfolding lentStart Unmoved
+pub start-kept : (w : List ℕ) (mask : ℕ) → ((lent_start w mask).answer ≡ 0 → ⊥) → (lent_start w mask).buffer ≡ w
+unfolding lent_start Unmoved
 start-kept w mask =
-    cases (Unmoved w) (eqb (length w) worldWidth)
+    cases (Unmoved w) (eqb (length w) world_width)
     (λ _. cases (Unmoved w) (eqb mask 0) (λ _ z. refl) (λ _. cases (Unmoved w) (leb 256 mask) (λ _ z. refl) (λ _ z. absurd (z refl)))) (λ _ z. refl)
 
 Kept : List ℕ → List ℕ → Stepped → Type 0
@@ -47,12 +47,12 @@ unfolding Unmoved Kept
 telling-kept w told l u z = (u z, rw (ne_eqb l.answer 0 z))
 
 pub step_kept : (w told : List ℕ) (kind id value : ℕ)
-    → ((toldStep w kind id value told).answer ≡ 0 → ⊥) → ((toldStep w kind id value told).buffer ≡ w) × ((toldStep w kind id value told).told ≡ told)
-unfolding toldStep Kept
+    → ((told_step w kind id value told).answer ≡ 0 → ⊥) → ((told_step w kind id value told).buffer ≡ w) × ((told_step w kind id value told).told ≡ told)
+unfolding told_step Kept
 step_kept w told kind id value =
-    cases (Kept w told) (ltb (length told) columnsWide) (λ _ z. (refl, refl)) (λ _. telling-kept w told _ (step-unmoved w kind id value))
+    cases (Kept w told) (ltb (length told) columns_wide) (λ _ z. (refl, refl)) (λ _. telling-kept w told _ (step_unmoved w kind id value))
 
-pub write_kept : (buf : List ℕ) (r : Written) → (number r ≡ 0 → ⊥) → bufferOf buf r ≡ buf
+pub write_kept : (buf : List ℕ) (r : Written) → (number r ≡ 0 → ⊥) → buffer_of buf r ≡ buf
 write_kept buf sheets.bad-sheet z = refl
 write_kept buf sheets.no_room z = refl
 write_kept buf (wrote l) z = absurd (z refl)
@@ -63,19 +63,19 @@ Whole world out told r = (r.answer ≡ 0 → ⊥) → (r.last ≡ world) × ((r.
 
 ruling-kept : (world out told : List ℕ) (x : Ruling)
     → Whole world out told (record {
-      answer = (answerBy out x).answer;
-      last = worldBy world x;
-      printed = laidBy out x;
-      told = if eqb (answerBy out x).answer 0 then be32 (answerBy out x).length ++ drop lengthWide told else told;
+      answer = (answer_by out x).answer;
+      last = world_by world x;
+      printed = laid_by out x;
+      told = if eqb (answer_by out x).answer 0 then be32 (answer_by out x).length ++ drop length_wide told else told;
     })
-unfolding Whole answerBy laidBy
+unfolding Whole answer_by laid_by
 ruling-kept world out told bad-world z = (refl, (refl, λ _. refl))
 ruling-kept world out told bad-sheet z = (refl, (refl, λ nine. absurd (nine refl)))
 ruling-kept world out told no_room z = (refl, (refl, λ _. refl))
 ruling-kept world out told (runs mask ks) z = absurd (z refl)
 
-pub rehearse-kept : (sheet world out told : List ℕ) → let r = toldRehearsal sheet world out told in
+pub rehearse-kept : (sheet world out told : List ℕ) → let r = told_rehearsal sheet world out told in
     (r.answer ≡ 0 → ⊥) → (r.last ≡ world) × ((r.told ≡ told) × ((r.answer ≡ sheets.number sheets.bad-sheet → ⊥) → r.printed ≡ out))
-unfolding toldRehearsal rehearseAnswer worldLeft recordLeft Whole
+unfolding told_rehearsal rehearse_answer world_left record_left Whole
 rehearse-kept sheet world out told =
-    cases (Whole world out told) (ltb (length told) lengthWide) (λ _ z. (refl, (refl, λ _. refl))) (λ _. ruling-kept world out told (decided sheet world out))
+    cases (Whole world out told) (ltb (length told) length_wide) (λ _ z. (refl, (refl, λ _. refl))) (λ _. ruling-kept world out told (decided sheet world out))

@@ -3,34 +3,34 @@ use Rattle.std.specs.Prelude.{List, [], ◌∷◌, ◌++◌, ℕ, eqb, ltb, leng
 use Rattle.rows.specs.Bytes.{be16, be32, cat}
 use Rattle.rules.specs.Sets.{if◌then◌else◌}
 use Rattle.rules.specs.Messages.{bad-world, no_room, number}
-use Rattle.layout.specs.Image.{byte, goodBytes}
+use Rattle.layout.specs.Image.{byte, good_bytes}
 use Rattle.rules.specs.Runs.{fields}
-use Rattle.layout.specs.Lent.{Lent, lentStep}
-use Rattle.rules.specs.Sheets.{badSheet}
+use Rattle.layout.specs.Lent.{Lent, lent_step}
+use Rattle.rules.specs.Sheets.{bad_sheet}
 use Rattle.rules.specs.Sheets as sheets
-use Rattle.rehearsal.specs.Playing.{rehearseAnswer, worldLeft, recordLeft}
+use Rattle.rehearsal.specs.Playing.{rehearse_answer, world_left, record_left}
 
 -- BAD WORLD: "world not good"
-abbrev pub goodNumber : List ℕ → ℕ
-goodNumber b = if goodBytes b then 0 else number bad-world
+abbrev pub good_number : List ℕ → ℕ
+good_number b = if good_bytes b then 0 else number bad-world
 
 -- BAD SHEET: "sheet not as below"
-abbrev pub sheetNumber : List ℕ → ℕ
-sheetNumber b = if badSheet b then sheets.number sheets.bad-sheet else 0
+abbrev pub sheet_number : List ℕ → ℕ
+sheet_number b = if bad_sheet b then sheets.number sheets.bad-sheet else 0
 
 -- ---- one step, and nine bytes for what it tells
 
 -- the columns of document 01, in their order
-unfoldable pub toldOf : Lent → List ℕ
-toldOf l = fields l.report.event l.report.who
+unfoldable pub told_of : Lent → List ℕ
+told_of l = fields l.report.event l.report.who
 
 -- event 1, who 1, count 2, desk 1, value or view 4
-unfoldable pub toldBytes : List ℕ → List ℕ
-toldBytes l = cat (byte (get_or l 0 0) ∷ byte (get_or l 1 0) ∷ be16 (get_or l 2 0) ∷ byte (get_or l 3 0) ∷ be32 (get_or l 4 0) ∷ [])
+unfoldable pub told_bytes : List ℕ → List ℕ
+told_bytes l = cat (byte (get_or l 0 0) ∷ byte (get_or l 1 0) ∷ be16 (get_or l 2 0) ∷ byte (get_or l 3 0) ∷ be32 (get_or l 4 0) ∷ [])
 
 -- how many bytes that takes
-abbrev pub columnsWide : ℕ
-columnsWide = 9
+abbrev pub columns_wide : ℕ
+columns_wide = 9
 
 -- the answer, the world's buffer and told
 pub record Stepped : Type 0 where
@@ -41,18 +41,18 @@ pub record Stepped : Type 0 where
 -- an accepted step tells at told's front, and the bytes past it stay; a refused one tells nothing
 abbrev pub telling : List ℕ → Lent → Stepped
 telling told l =
-    record { answer = l.answer; buffer = l.buffer; told = if eqb l.answer 0 then toldBytes (toldOf l) ++ drop columnsWide told else told }
+    record { answer = l.answer; buffer = l.buffer; told = if eqb l.answer 0 then told_bytes (told_of l) ++ drop columns_wide told else told }
 
 -- NO ROOM where told is too short for an event: nothing is done that could not be told
-unfoldable pub toldStep : List ℕ → ℕ → ℕ → ℕ → List ℕ → Stepped
-toldStep w kind id value told =
-    if ltb (length told) columnsWide then record { answer = number no_room; buffer = w; told = told }
-    else telling told (lentStep w (record { kind = kind; id = id; value = value }))
+unfoldable pub told_step : List ℕ → ℕ → ℕ → ℕ → List ℕ → Stepped
+told_step w kind id value told =
+    if ltb (length told) columns_wide then record { answer = number no_room; buffer = w; told = told }
+    else telling told (lent_step w (record { kind = kind; id = id; value = value }))
 
 -- ---- a whole sheet, and four bytes for how long its record is
 
-abbrev pub lengthWide : ℕ
-lengthWide = 4
+abbrev pub length_wide : ℕ
+length_wide = 4
 
 -- the answer, the world's buffer, the record's and told
 pub record Rehearsal : Type 0 where
@@ -62,14 +62,14 @@ pub record Rehearsal : Type 0 where
   pub told : List ℕ
 
 -- NO ROOM where told is too short for the length
-unfoldable pub toldRehearsal : List ℕ → List ℕ → List ℕ → List ℕ → Rehearsal
-toldRehearsal sheet world out told =
-    if ltb (length told) lengthWide then record { answer = number no_room; last = world; printed = out; told = told }
+unfoldable pub told_rehearsal : List ℕ → List ℕ → List ℕ → List ℕ → Rehearsal
+told_rehearsal sheet world out told =
+    if ltb (length told) length_wide then record { answer = number no_room; last = world; printed = out; told = told }
     else
-    (let r = rehearseAnswer sheet world out in
+    (let r = rehearse_answer sheet world out in
     record {
       answer = r.answer;
-      last = worldLeft sheet world out;
-      printed = recordLeft sheet world out;
-      told = if eqb r.answer 0 then be32 r.length ++ drop lengthWide told else told;
+      last = world_left sheet world out;
+      printed = record_left sheet world out;
+      told = if eqb r.answer 0 then be32 r.length ++ drop length_wide told else told;
     })

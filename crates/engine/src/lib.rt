@@ -1,11 +1,11 @@
 // The engine for C and Rust: byte slices and numbers only. A slice passes as a pointer and then a length. c/engine.h has what a caller owes.
 ghost use Rattle.std.specs.Prelude.{◌≡◌};
 ghost use Rattle.rows.specs.Bytes.{placed, be32};
-ghost use Rattle.layout.specs.Lent.{lentStart};
+ghost use Rattle.layout.specs.Lent.{lent_start};
 ghost use Rattle.rules.specs.Sheets.{number};
-ghost use Rattle.sheet.specs.Writing.{ruled, bufferOf};
-ghost use Rattle.world.specs.Tracing.{columnsOf};
-ghost use Rattle.engine.specs.Told.{goodNumber, sheetNumber, toldBytes, toldStep, toldRehearsal};
+ghost use Rattle.sheet.specs.Writing.{ruled, buffer_of};
+ghost use Rattle.world.specs.Tracing.{columns_of};
+ghost use Rattle.engine.specs.Told.{good_number, sheet_number, told_bytes, told_step, told_rehearsal};
 
 use rules::Step;
 use sheet::Written;
@@ -18,7 +18,7 @@ const COLUMNS: usize = 9;
 const LENGTH: usize = 4;
 
 fn put_columns(told: &mut [u8], c: Columns)
-    ensures { told.new ≡ placed told.old 0 (toldBytes (columnsOf c)) }
+    ensures { told.new ≡ placed told.old 0 (told_bytes (columns_of c)) }
 {
     let widths = [1u8, 1, 2, 1, 4];
     let xs = [
@@ -42,7 +42,7 @@ fn put_length(told: &mut [u8], n: u32)
 // BAD WORLD for bytes that are no good world.
 #[unsafe(no_mangle)]
 pub extern "C" fn world_good(w: &[u8]) -> u8
-    ensures { result ≡ goodNumber w.now }
+    ensures { result ≡ good_number w.now }
 {
     if good::is_good(w) {
         return 0;
@@ -52,8 +52,8 @@ pub extern "C" fn world_good(w: &[u8]) -> u8
 
 #[unsafe(no_mangle)]
 pub extern "C" fn world_start(w: &mut [u8], mask: u8) -> u8
-    ensures answer { result ≡ (lentStart w.old mask).answer }
-    ensures buffer { w.new ≡ (lentStart w.old mask).buffer }
+    ensures answer { result ≡ (lent_start w.old mask).answer }
+    ensures buffer { w.new ≡ (lent_start w.old mask).buffer }
 {
     world::start(w, mask).number
 }
@@ -61,9 +61,9 @@ pub extern "C" fn world_start(w: &mut [u8], mask: u8) -> u8
 // An accepted step's columns go into the first nine bytes of `told`; where it is shorter, NO ROOM, so that no event is lost.
 #[unsafe(no_mangle)]
 pub extern "C" fn world_step(w: &mut [u8], kind: u8, id: u8, value: u32, told: &mut [u8]) -> u8
-    ensures answer { result ≡ (toldStep w.old kind id value told.old).answer }
-    ensures buffer { w.new ≡ (toldStep w.old kind id value told.old).buffer }
-    ensures columns { told.new ≡ (toldStep w.old kind id value told.old).told }
+    ensures answer { result ≡ (told_step w.old kind id value told.old).answer }
+    ensures buffer { w.new ≡ (told_step w.old kind id value told.old).buffer }
+    ensures columns { told.new ≡ (told_step w.old kind id value told.old).told }
 {
     if told.len() < COLUMNS {
         return rules::NO_ROOM;
@@ -81,7 +81,7 @@ pub extern "C" fn world_step(w: &mut [u8], kind: u8, id: u8, value: u32, told: &
 // BAD SHEET for bytes that are no sheet.
 #[unsafe(no_mangle)]
 pub extern "C" fn sheet_check(sheet: &[u8]) -> u8
-    ensures { result ≡ sheetNumber sheet.now }
+    ensures { result ≡ sheet_number sheet.now }
 {
     if sheet::check(sheet).bad {
         return rules::BAD_SHEET;
@@ -100,7 +100,7 @@ pub extern "C" fn sheet_write(
 ) -> u8
     ensures answer { result ≡ number (ruled buf.old mask kinds.now ids.now values.now) }
     ensures left { buf.new
-        ≡ bufferOf buf.old (ruled buf.old mask kinds.now ids.now values.now) }
+        ≡ buffer_of buf.old (ruled buf.old mask kinds.now ids.now values.now) }
 {
     let written = sheet::write(buf, mask, kinds, ids, values);
     match written {
@@ -118,10 +118,10 @@ pub extern "C" fn sheet_rehearse(
     out: &mut [u8],
     told: &mut [u8],
 ) -> u8
-    ensures answer { result ≡ (toldRehearsal sheet.now world.old out.old told.old).answer }
-    ensures last { world.new ≡ (toldRehearsal sheet.now world.old out.old told.old).last }
-    ensures printed { out.new ≡ (toldRehearsal sheet.now world.old out.old told.old).printed }
-    ensures length { told.new ≡ (toldRehearsal sheet.now world.old out.old told.old).told }
+    ensures answer { result ≡ (told_rehearsal sheet.now world.old out.old told.old).answer }
+    ensures last { world.new ≡ (told_rehearsal sheet.now world.old out.old told.old).last }
+    ensures printed { out.new ≡ (told_rehearsal sheet.now world.old out.old told.old).printed }
+    ensures length { told.new ≡ (told_rehearsal sheet.now world.old out.old told.old).told }
 {
     if told.len() < LENGTH {
         return rules::NO_ROOM;

@@ -2,25 +2,25 @@
 -- the rule itself. Assumes nothing.
 use Rattle.std.specs.Prelude.{List, [], ◌∷◌, ◌++◌, ℕ, take}
 use Rattle.rules.specs.Sets.{if◌then◌else◌, lacks}
-use Rattle.rules.specs.Messages.{Sending, proposal, toMembers}
+use Rattle.rules.specs.Messages.{Sending, proposal, to_members}
 use Rattle.rules.specs.State.{Generator}
-use Rattle.rules.specs.Generators.{Turn, withOwn, hears, settles}
+use Rattle.rules.specs.Generators.{Turn, with_own, hears, settles}
 
 -- a generator that sends these
 abbrev pub turn : Generator → List Sending → Turn
 turn g ss = record { next = g; sendings = ss }
 
 -- the generator after the note and the merge
-unfoldable pub mergedInRow : Generator → ℕ → List ℕ → Generator
-mergedInRow g from q = let h = (hears g from q).next in withOwn h (take 15 h.own)
+unfoldable pub merged_in_row : Generator → ℕ → List ℕ → Generator
+merged_in_row g from q = let h = (hears g from q).next in with_own h (take 15 h.own)
 
-unfoldable pub hearsInRow : Generator → ℕ → List ℕ → Turn
-hearsInRow g from q =
-    let h = mergedInRow g from q in
-    turn h (if lacks q g.own then toMembers g.view (proposal g.view h.own) ∷ [] else [])
+unfoldable pub hears_in_row : Generator → ℕ → List ℕ → Turn
+hears_in_row g from q =
+    let h = merged_in_row g from q in
+    turn h (if lacks q g.own then to_members g.view (proposal g.view h.own) ∷ [] else [])
 
-unfoldable pub heardInRow : Generator → ℕ → List ℕ → Turn
-heardInRow g from q =
-    let one = hearsInRow g from q in
+unfoldable pub heard_in_row : Generator → ℕ → List ℕ → Turn
+heard_in_row g from q =
+    let one = hears_in_row g from q in
     let two = settles one.next in
     turn two.next (one.sendings ++ two.sendings)

@@ -1,11 +1,11 @@
 // The rules at one generator: Propose, Proposal, Converged. Document 01, "Delivery at a relay".
 ghost use Rattle.std.specs.Prelude.{◌≡◌, [], ◌∷◌};
-ghost use Rattle.views.specs.Row.{viewsOf};
+ghost use Rattle.views.specs.Row.{views_of};
 ghost use Rattle.rules.specs.Generators as rules;
-ghost use Rattle.state.specs.Meaning.{notesOf, generatorOf, sendingOf};
+ghost use Rattle.state.specs.Meaning.{notes_of, generator_of, sending_of};
 ghost use Rattle.state.specs.Plans.{turn_of, turned};
-ghost use Rattle.generator.specs.Heard.{turn, mergedInRow, heardInRow};
-ghost use Rattle.generator.specs.Rows.{fresh_row, notedRow};
+ghost use Rattle.generator.specs.Heard.{turn, merged_in_row, heard_in_row};
+ghost use Rattle.generator.specs.Rows.{fresh_row, noted_row};
 
 use state::{Generator, Notes, Sending, Turn};
 use views::Sequence;
@@ -27,7 +27,7 @@ pub fn fresh(v: u16) -> Generator
 
 // There is no note of a sender above 7.
 pub fn noted(n: Notes, from: u8, q: Sequence) -> Notes
-    ensures { result ≡ notedRow n from q }
+    ensures { result ≡ noted_row n from q }
 {
     if 8 <= from {
         return n;
@@ -40,7 +40,7 @@ pub fn noted(n: Notes, from: u8, q: Sequence) -> Notes
 
 // The set of those whose last note is q.
 pub fn agreeing(n: Notes, q: Sequence) -> u8
-    ensures { result ≡ rules.agreeing (notesOf n) (viewsOf q) }
+    ensures { result ≡ rules.agreeing (notes_of n) (views_of q) }
 {
     let mut mask: u8 = 0;
     let mut s: usize = 8;
@@ -53,13 +53,13 @@ pub fn agreeing(n: Notes, q: Sequence) -> u8
 }
 
 pub fn agree(v: u16, n: Notes, q: Sequence) -> bool
-    ensures { result ≡ rules.agree v (notesOf n) (viewsOf q) }
+    ensures { result ≡ rules.agree v (notes_of n) (views_of q) }
 {
     views::reaches(v, agreeing(n, q))
 }
 
 fn quiet(next: Generator) -> Turn
-    ensures { turn_of result ≡ turned (turn (generatorOf next) []) }
+    ensures { turn_of result ≡ turned (turn (generator_of next) []) }
 {
     Turn {
         next: next,
@@ -68,7 +68,7 @@ fn quiet(next: Generator) -> Turn
 }
 
 fn sends(next: Generator, s: Sending) -> Turn
-    ensures { turn_of result ≡ turned (turn (generatorOf next) (sendingOf s ∷ [])) }
+    ensures { turn_of result ≡ turned (turn (generator_of next) (sending_of s ∷ [])) }
 {
     Turn {
         next: next,
@@ -78,7 +78,7 @@ fn sends(next: Generator, s: Sending) -> Turn
 
 // "Propose q for v: if v's generator has an empty own sequence, it becomes q and goes as proposal to all members of v, oneself too; else nothing."
 pub fn proposes(g: Generator, q: Sequence) -> Turn
-    ensures { turn_of result ≡ turned (rules.proposes (generatorOf g) (viewsOf q)) }
+    ensures { turn_of result ≡ turned (rules.proposes (generator_of g) (views_of q)) }
 {
     let own = g.own;
     if 0 < views::count(own) {
@@ -92,7 +92,7 @@ pub fn proposes(g: Generator, q: Sequence) -> Turn
 
 // "Then, if own differs from converged and a quorum of v's last noted proposals equal own, converged becomes own and goes out to all members."
 fn settles(g: Generator) -> Turn
-    ensures { turn_of result ≡ turned (rules.settles (generatorOf g)) }
+    ensures { turn_of result ≡ turned (rules.settles (generator_of g)) }
 {
     let own = g.own;
     let converged = g.converged;
@@ -111,7 +111,7 @@ fn settles(g: Generator) -> Turn
 
 // "note it for the sender. If q has a view that own lacks: [..] own becomes [..]"
 fn merged(g: Generator, from: u8, q: Sequence) -> Generator
-    ensures { generatorOf result ≡ mergedInRow (generatorOf g) from (viewsOf q) }
+    ensures { generator_of result ≡ merged_in_row (generator_of g) from (views_of q) }
 {
     let own = g.own;
     let converged = g.converged;
@@ -124,7 +124,7 @@ fn merged(g: Generator, from: u8, q: Sequence) -> Generator
 
 // "Proposal(v, q)"
 pub fn proposal_heard(g: Generator, from: u8, q: Sequence) -> Turn
-    ensures { turn_of result ≡ turned (heardInRow (generatorOf g) from (viewsOf q)) }
+    ensures { turn_of result ≡ turned (heard_in_row (generator_of g) from (views_of q)) }
 {
     let old = g.own;
     let v = g.view;
@@ -145,7 +145,7 @@ pub fn proposal_heard(g: Generator, from: u8, q: Sequence) -> Turn
 // "Converged(v, q): note it. If a quorum's last notes equal q and q is not the last raised, raise it:
 // install(v, least(q), q) goes to all who are members of v or of least(q)."
 pub fn converged_heard(g: Generator, from: u8, q: Sequence) -> Turn
-    ensures { turn_of result ≡ turned (rules.convergedHeard (generatorOf g) from (viewsOf q)) }
+    ensures { turn_of result ≡ turned (rules.converged_heard (generator_of g) from (views_of q)) }
 {
     let v = g.view;
     let old = g.convergences;

@@ -10,15 +10,15 @@ use lib.ListN.{get_or-append, get_or-eq_default, length, get_or, take, drop, tak
 use lib.Seq.{ext_get_or, get_or-take, get_or-drop, length-take-le, get_or-append-add, drop-drop}
 use borrow.Author.Tests.{eqb-true, eq-eqb, leb-true, leb-false}
 use Rattle.rows.specs.Bytes.{placed, tab, zeros}
-use Rattle.rows.specs.Tests.{all, allZero}
-use Rattle.rows.proofs.All.{all_none, all-at, all-every}
-use Rattle.rows.proofs.Laws.{Holds, holds-self, holds-run, holds-byte, placed-fits, tab-getD, length-tab}
+use Rattle.rows.specs.Tests.{all, all_zero}
+use Rattle.rows.proofs.All.{all_none, all_at, all_every}
+use Rattle.rows.proofs.Laws.{Holds, holds_self, holds-run, holds-byte, placed_fits, tab_get_d, length-tab}
 use Rattle.rows.proofs.Tables.{splice-whole, length-zeros}
 use Rattle.rules.specs.Sets.{◌&&◌}
 use Rattle.rules.specs.Sets as sets
 use Rattle.rules.specs.WellFormed.{all_from, distinct}
 use Rattle.good.specs.Rows.{held, differs}
-use Rattle.good.proofs.Tests.{both-fail, both-pass, no, yes}
+use Rattle.good.proofs.Tests.{both_fail, both_pass, no, yes}
 
 -- ---- tests of a list
 
@@ -41,7 +41,7 @@ module _ {A : Type 0} where
   from-tab (suc n) f g = from-append 0 f (tab n g) (g n) ∙ rw (length-tab n g, zero-add n, from-tab n f g)
 
   pub from_list : (n : ℕ) (f : ℕ → A → Bool) (d : A) (xs : List A) → length xs ≡ n → all_from 0 f xs ≡ all n (λ k. f k (get_or xs k d))
-  from_list n f d xs e = ap (all_from 0 f) (sym (tab-getD xs n d e)) ∙ from-tab n f (λ k. get_or xs k d)
+  from_list n f d xs e = ap (all_from 0 f) (sym (tab_get_d xs n d e)) ∙ from-tab n f (λ k. get_or xs k d)
 
   all_append : (f : A → Bool) (xs : List A) (x : A) → sets.all f (xs ++ (x ∷ [])) ≡ sets.all f xs && f x
   unfolding sets.all
@@ -54,7 +54,7 @@ module _ {A : Type 0} where
   all-tab (suc n) f g = all_append f (tab n g) (g n) ∙ rw (all-tab n f g)
 
   pub all_list : (f : A → Bool) (d : A) (xs : List A) → sets.all f xs ≡ all (length xs) (λ k. f (get_or xs k d))
-  all_list f d xs = ap (sets.all f) (sym (tab-getD xs (length xs) d refl)) ∙ all-tab (length xs) f (λ k. get_or xs k d)
+  all_list f d xs = ap (sets.all f) (sym (tab_get_d xs (length xs) d refl)) ∙ all-tab (length xs) f (λ k. get_or xs k d)
 
   distinct_append : (d : A → A → Bool) (xs : List A) (x : A) → distinct d (xs ++ (x ∷ [])) ≡ distinct d xs && sets.all (λ y. d y x) xs
   unfolding distinct sets.all
@@ -76,20 +76,20 @@ module _ {A : Type 0} where
 -- ---- bytes that stand in a buffer
 
 pub written : {l : List ℕ} (a b : List ℕ) → length b ≡ length a → l ≡ placed a 0 b → l ≡ b
-written a b e h = h ∙ placed-fits a b 0 (omega arith) ∙ splice-whole a b e
+written a b e h = h ∙ placed_fits a b 0 (omega arith) ∙ splice-whole a b e
 
 -- of a row that means y: what was read, x, is tested, written to a row of its own, and compared
 module _ {A : Type 0} (good : A → Bool) (enc : A → List ℕ) {x y : A} (is : x ≡ y) {r : Bool} (e : r ≡ good x) where
-  pub row-fails : (b : Bool) → not r ≡ true → false ≡ good y && b
-  row-fails b t = both-fail b (ap good (sym is) ∙ no e t)
+  pub row_fails : (b : Bool) → not r ≡ true → false ≡ good y && b
+  row_fails b t = both_fail b (ap good (sym is) ∙ no e t)
 
-  pub row-answers : {h : Bool} {row : List ℕ} (a l : List ℕ) (o : ℕ) → not r ≡ false → length (enc x) ≡ length a → row ≡ placed a 0 (enc x) → h ≡ held l o row → h ≡ good y && held l o (enc y)
-  row-answers a l o t n w h = both-pass (ap good (sym is) ∙ yes e t) (h ∙ ap (held l o) (written a _ n w ∙ ap enc is))
+  pub row_answers : {h : Bool} {row : List ℕ} (a l : List ℕ) (o : ℕ) → not r ≡ false → length (enc x) ≡ length a → row ≡ placed a 0 (enc x) → h ≡ held l o row → h ≡ good y && held l o (enc y)
+  row_answers a l o t n w h = both_pass (ap good (sym is) ∙ yes e t) (h ∙ ap (held l o) (written a _ n w ∙ ap enc is))
 
 module _ (l : List ℕ) (o : ℕ) (b : List ℕ) where
-  pub held-true : Holds l o b → held l o b ≡ true
+  pub held_true : Holds l o b → held l o b ≡ true
   unfolding held
-  held-true h = all-every (length b) (λ k. eqb (get_or l (o + k) 0) (get_or b k 0)) (λ k p. eq-eqb (get_or l (o + k) 0) (get_or b k 0) (one k p))
+  held_true h = all_every (length b) (λ k. eqb (get_or l (o + k) 0) (get_or b k 0)) (λ k p. eq-eqb (get_or l (o + k) 0) (get_or b k 0) (one k p))
     where
       one : (k : ℕ) → k < length b → get_or l (o + k) 0 ≡ get_or b k 0
       one k p =
@@ -97,9 +97,9 @@ module _ (l : List ℕ) (o : ℕ) (b : List ℕ) where
           ∙ rw (← h.long) (get_or-append-add h.pre (b ++ h.post) k 0)
           ∙ get_or-append b h.post 0 k p
 
-  pub held-fact : o + length b ≤ length l → held l o b ≡ true → Holds l o b
+  pub held_fact : o + length b ≤ length l → held l o b ≡ true → Holds l o b
   unfolding held
-  held-fact room e =
+  held_fact room e =
       record { pre = take o l; post = drop (o + length b) l; long = length-take-le o l (omega arith); whole = whole }
     where
       part : take (length b) (drop o l) ≡ b
@@ -107,48 +107,48 @@ module _ (l : List ℕ) (o : ℕ) (b : List ℕ) where
           let long : length (take (length b) (drop o l)) ≡ length b = length-take-le (length b) (drop o l) (rw (length-drop o l) (omega arith)) in
           ext_get_or 0 (take (length b) (drop o l)) b long
           (λ k p. get_or-take (length b) (drop o l) k 0 (omega arith) ∙ get_or-drop o l k 0
-          ∙ eqb-true (get_or l (o + k) 0) (get_or b k 0) (all-at (length b) k (λ k. eqb (get_or l (o + k) 0) (get_or b k 0)) e (omega arith)))
+          ∙ eqb-true (get_or l (o + k) 0) (get_or b k 0) (all_at (length b) k (λ k. eqb (get_or l (o + k) 0) (get_or b k 0)) e (omega arith)))
 
       whole : l ≡ take o l ++ (b ++ drop (o + length b) l)
       whole =
           sym (take-append-drop o l)
           ∙ ap (λ (t : List ℕ). take o l ++ t) (sym (take-append-drop (length b) (drop o l)) ∙ rw (part, drop-drop))
 
-zero-at : (n k : ℕ) → get_or (zeros n) k 0 ≡ 0
+zero_at : (n k : ℕ) → get_or (zeros n) k 0 ≡ 0
 unfolding zeros
-zero-at n k = go (leb n k) refl
+zero_at n k = go (leb n k) refl
   where
     go : (t : Bool) → leb n k ≡ t → get_or (zeros n) k 0 ≡ 0
     go true e = get_or-eq_default (zeros n) 0 (omega (arith, length-zeros n, leb-true n k e))
     go false e =
         let same : 0 + k * 1 ≡ k = omega arith in
-        holds-byte (zeros n) k 0 [] (rw same at (holds-run 1 n k 0 (zeros n) (λ k. 0 ∷ []) (λ k. refl) (leb-false n k e) (holds-self (zeros n))))
+        holds-byte (zeros n) k 0 [] (rw same at (holds-run 1 n k 0 (zeros n) (λ k. 0 ∷ []) (λ k. refl) (leb-false n k e) (holds_self (zeros n))))
 
 -- zeros stand where all is zero
-pub zero_held : (l : List ℕ) (o n : ℕ) → allZero l o n ≡ held l o (zeros n)
-unfolding allZero held
-zero_held l o n = rw (length-zeros n) (all_same n (λ k. eqb (get_or l (o + k) 0) 0) (λ k. eqb (get_or l (o + k) 0) (get_or (zeros n) k 0)) (λ k p. ap (eqb (get_or l (o + k) 0)) (sym (zero-at n k))))
+pub zero_held : (l : List ℕ) (o n : ℕ) → all_zero l o n ≡ held l o (zeros n)
+unfolding all_zero held
+zero_held l o n = rw (length-zeros n) (all_same n (λ k. eqb (get_or l (o + k) 0) 0) (λ k. eqb (get_or l (o + k) 0) (get_or (zeros n) k 0)) (λ k p. ap (eqb (get_or l (o + k) 0)) (sym (zero_at n k))))
 
 -- ---- parts of what is zero
 
 module _ (l : List ℕ) (o : ℕ) where
-  pub zero-part : (n m k : ℕ) → m + k ≤ n → allZero l o n ≡ true → allZero l (o + m) k ≡ true
-  unfolding allZero
-  zero-part n m k h e =
-      all-every k (λ j. eqb (get_or l (o + m + j) 0) 0)
-      (λ j p. rw (add_assoc o m j) (all-at n (m + j) (λ j. eqb (get_or l (o + j) 0) 0) e (omega arith)))
+  pub zero_part : (n m k : ℕ) → m + k ≤ n → all_zero l o n ≡ true → all_zero l (o + m) k ≡ true
+  unfolding all_zero
+  zero_part n m k h e =
+      all_every k (λ j. eqb (get_or l (o + m + j) 0) 0)
+      (λ j p. rw (add_assoc o m j) (all_at n (m + j) (λ j. eqb (get_or l (o + j) 0) 0) e (omega arith)))
 
-  pub zero-join : (m k : ℕ) → allZero l o m ≡ true → allZero l (o + m) k ≡ true → allZero l o (m + k) ≡ true
-  unfolding allZero
-  zero-join m k e f = all-every (m + k) (λ j. eqb (get_or l (o + j) 0) 0) (λ j p. go j p (leb m j) refl)
+  pub zero_join : (m k : ℕ) → all_zero l o m ≡ true → all_zero l (o + m) k ≡ true → all_zero l o (m + k) ≡ true
+  unfolding all_zero
+  zero_join m k e f = all_every (m + k) (λ j. eqb (get_or l (o + j) 0) 0) (λ j p. go j p (leb m j) refl)
     where
       go : (j : ℕ) → j < m + k → (b : Bool) → leb m j ≡ b → eqb (get_or l (o + j) 0) 0 ≡ true
       go j p true t =
           let q = leb-true m j t in
           let same : o + m + (j - m) ≡ o + j = omega arith in
-          rw same at (all-at k (j - m) (λ j. eqb (get_or l (o + m + j) 0) 0) f (omega arith))
-      go j p false t = all-at m j (λ j. eqb (get_or l (o + j) 0) 0) e (leb-false m j t)
+          rw same at (all_at k (j - m) (λ j. eqb (get_or l (o + m + j) 0) 0) f (omega arith))
+      go j p false t = all_at m j (λ j. eqb (get_or l (o + j) 0) 0) e (leb-false m j t)
 
-pub all-none-zero : (l : List ℕ) (o : ℕ) → allZero l o 0 ≡ true
-unfolding allZero
-all-none-zero l o = all_none (λ k. eqb (get_or l (o + k) 0) 0)
+pub all_none_zero : (l : List ℕ) (o : ℕ) → all_zero l o 0 ≡ true
+unfolding all_zero
+all_none_zero l o = all_none (λ k. eqb (get_or l (o + k) 0) 0)

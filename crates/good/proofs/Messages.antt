@@ -8,47 +8,47 @@ use native.Mathlib.Omega.{arith}
 use lib.Dec.{eqb, leb}
 use lib.ListN.{get_or}
 use borrow.Author.Tests.{lt-leb, ne_eqb}
-use Rattle.rows.specs.Tests.{allZero}
-use Rattle.rows.proofs.All.{all-fails}
+use Rattle.rows.specs.Tests.{all_zero}
+use Rattle.rows.proofs.All.{all_fails}
 use Rattle.rules.specs.State.{free, waiting}
-use Rattle.rules.specs.WellFormed.{goodPlace}
-use Rattle.layout.specs.Layout.{messageWidth}
-use Rattle.layout.specs.Image.{placeBytes, rowBytes, row_at, place_in}
+use Rattle.rules.specs.WellFormed.{good_place}
+use Rattle.layout.specs.Layout.{message_width}
+use Rattle.layout.specs.Image.{place_bytes, row_bytes, row_at, place_in}
 use Rattle.layout.proofs.Zeros.{place-zeros}
 use Rattle.state.specs.declared.Body.{Body}
 use Rattle.state.specs.declared.Message.{Message}
-use Rattle.state.specs.Meaning.{body_of, messageOf}
-use Rattle.messages.specs.Made.{madeWith}
-use Rattle.messages.proofs.Made.{made_row, says-own}
-use Rattle.image.specs.Parts.{messageRow}
-use Rattle.image.proofs.Parts.{place_of, said-bytes}
-use Rattle.good.specs.Rows.{held, sent, placeGood}
+use Rattle.state.specs.Meaning.{body_of, message_of}
+use Rattle.messages.specs.Made.{made_with}
+use Rattle.messages.proofs.Made.{made_row, says_own}
+use Rattle.image.specs.Parts.{message_row}
+use Rattle.image.proofs.Parts.{place_of, said_bytes}
+use Rattle.good.specs.Rows.{held, sent, place_good}
 use Rattle.good.proofs.Held.{zero_held}
 
 module _ (l : List ℕ) (o : ℕ) where
-  free-good : place_in (row_at l o) ≡ free → placeGood l o ≡ allZero l o messageWidth
-  unfolding placeGood goodPlace
-  free-good e = rw e (ap (held l o) place-zeros ∙ sym (zero_held l o messageWidth))
+  free_good : place_in (row_at l o) ≡ free → place_good l o ≡ all_zero l o message_width
+  unfolding place_good good_place
+  free_good e = rw e (ap (held l o) place-zeros ∙ sym (zero_held l o message_width))
 
-  pub no_kind : get_or l o 0 ≡ 0 → placeGood l o ≡ allZero l o messageWidth
+  pub no_kind_lem : get_or l o 0 ≡ 0 → place_good l o ≡ all_zero l o message_width
   unfolding place_in row_at
-  no_kind e = free-good (rw e)
+  no_kind_lem e = free_good (rw e)
 
-  pub above-kinds : 11 < get_or l o 0 → placeGood l o ≡ false
-  unfolding place_in row_at allZero
-  above-kinds h =
-      free-good (rw (lt-leb (get_or l o 0) 11 h, and-false (leb 1 (get_or l o 0))))
-      ∙ all-fails messageWidth 0 (λ k. eqb (get_or l (o + k) 0) 0) (omega arith) (rw (add-zero o) (ne_eqb (get_or l o 0) 0 (λ z. omega arith)))
+  pub above_kinds : 11 < get_or l o 0 → place_good l o ≡ false
+  unfolding place_in row_at all_zero
+  above_kinds h =
+      free_good (rw (lt-leb (get_or l o 0) 11 h, and-false (leb 1 (get_or l o 0))))
+      ∙ all_fails message_width 0 (λ k. eqb (get_or l (o + k) 0) 0) (omega arith) (rw (add-zero o) (ne_eqb (get_or l o 0) 0 (λ z. omega arith)))
 
-  module _ (m : Message) (e : messageRow m ≡ row_at l o) where
+  module _ (m : Message) (e : message_row m ≡ row_at l o) where
     pub kind-is : m.body.kind ≡ get_or l o 0
-    unfolding messageRow row_at
+    unfolding message_row row_at
     kind-is = ap (λ r. r.kind) e
 
-    pub place-waits : 1 ≤ m.body.kind → m.body.kind ≤ 11 → place_in (row_at l o) ≡ waiting (messageOf m)
-    place-waits low high = ap place_in (sym e) ∙ place_of m low high
+    pub place_waits : 1 ≤ m.body.kind → m.body.kind ≤ 11 → place_in (row_at l o) ≡ waiting (message_of m)
+    place_waits low high = ap place_in (sym e) ∙ place_of m low high
 
 -- a message whose body is made plain has the bytes of its place
-pub plain-place : (from to : ℕ) (b plain : Body) → plain ≡ madeWith b.sequence (body_of b)
-    → rowBytes (messageRow (record { from = from; to = to; body = plain })) ≡ placeBytes (sent from to (body_of b))
-plain-place from to b plain e = said-bytes (record { from = from; to = to; body = plain }) (body_of b) (made_row _ _ e (says-own b))
+pub plain_place : (from to : ℕ) (b plain : Body) → plain ≡ made_with b.sequence (body_of b)
+    → row_bytes (message_row (record { from = from; to = to; body = plain })) ≡ place_bytes (sent from to (body_of b))
+plain_place from to b plain e = said_bytes (record { from = from; to = to; body = plain }) (body_of b) (made_row _ _ e (says_own b))

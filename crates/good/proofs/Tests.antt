@@ -10,9 +10,9 @@ use lib.Dec.{eqb, ltb}
 use lib.ListN.{length, get_or}
 use borrow.Author.Tests.{not-true, not-false, lt-ltb, ne_eqb}
 use Rattle.views.proofs.Truth.{contrary}
-use Rattle.rules.specs.Sets.{◌&&◌, ◌||◌, none, all, allHold}
+use Rattle.rules.specs.Sets.{◌&&◌, ◌||◌, none, all, all_hold}
 use Rattle.rules.specs.Stamps.{Pair}
-use Rattle.rules.specs.WellFormed.{isPair, distinct, goodGenerators, goodTransfers}
+use Rattle.rules.specs.WellFormed.{is_pair, distinct, good_generators, good_transfers}
 
 -- what a call's answer r says of the test b that it decides
 module _ {r b : Bool} (e : r ≡ b) where
@@ -24,63 +24,63 @@ module _ {r b : Bool} (e : r ≡ b) where
 
 -- ---- in a list of conditions
 
-pub fails : (bs : List Bool) (i : ℕ) → get_or bs i true ≡ false → false ≡ allHold bs
-unfolding allHold
+pub fails : (bs : List Bool) (i : ℕ) → get_or bs i true ≡ false → false ≡ all_hold bs
+unfolding all_hold
 fails [] i e = absurd (contrary refl e)
 fails (b ∷ bs) zero e = rw e
 fails (b ∷ bs) (suc i) e = rw (← fails bs i e) (sym (and-false b))
 
-pub pass : {r : Bool} (b : Bool) (bs : List Bool) → b ≡ true → r ≡ allHold bs → r ≡ allHold (b ∷ bs)
-unfolding allHold
+pub pass : {r : Bool} (b : Bool) (bs : List Bool) → b ≡ true → r ≡ all_hold bs → r ≡ all_hold (b ∷ bs)
+unfolding all_hold
 pass b bs e h = rw e h
 
-pub last : {r : Bool} (b : Bool) → r ≡ b → r ≡ allHold (b ∷ [])
-unfolding allHold
+pub last : {r : Bool} (b : Bool) → r ≡ b → r ≡ all_hold (b ∷ [])
+unfolding all_hold
 last b e = e ∙ sym (and-true b)
 
-pub last_then : {r : Bool} (b : Bool) (bs : List Bool) → r ≡ b → allHold bs ≡ true → r ≡ allHold (b ∷ bs)
-unfolding allHold
+pub last_then : {r : Bool} (b : Bool) (bs : List Bool) → r ≡ b → all_hold bs ≡ true → r ≡ all_hold (b ∷ bs)
+unfolding all_hold
 last_then b bs e h = rw h (e ∙ sym (and-true b))
 
 -- ---- of two
 
-pub both-fail : {a : Bool} (b : Bool) → a ≡ false → false ≡ a && b
-both-fail b e = rw e
+pub both_fail : {a : Bool} (b : Bool) → a ≡ false → false ≡ a && b
+both_fail b e = rw e
 
-pub both-pass : {r a b : Bool} → a ≡ true → r ≡ b → r ≡ a && b
-both-pass e h = rw e h
+pub both_pass : {r a b : Bool} → a ≡ true → r ≡ b → r ≡ a && b
+both_pass e h = rw e h
 
 pub either_first : {a : Bool} (b : Bool) → a ≡ true → true ≡ a || b
 either_first b e = rw e
 
-pub either-next : {r a b : Bool} → a ≡ false → r ≡ b → r ≡ a || b
-either-next e h = rw e h
+pub either_next : {r a b : Bool} → a ≡ false → r ≡ b → r ≡ a || b
+either_next e h = rw e h
 
 -- ---- in range by its type
 
-pub in-range : {x : ℕ} → Fits w16 x → ltb x 65536 ≡ true
-in-range {x} f = lt-ltb x 65536 f.fits
+pub in_range : {x : ℕ} → Fits w16 x → ltb x 65536 ≡ true
+in_range {x} f = lt-ltb x 65536 f.fits
 
-pub pair-in-range : (p : Pair) → p.stamp.count < 65536 → p.stamp.desk < 4 → p.value < 4294967296 → isPair p ≡ true
-unfolding isPair
-pair-in-range p c d v = rw (lt-ltb p.stamp.count 65536 c, lt-ltb p.stamp.desk 4 d, lt-ltb p.value 4294967296 v)
+pub pair_in_range : (p : Pair) → p.stamp.count < 65536 → p.stamp.desk < 4 → p.value < 4294967296 → is_pair p ≡ true
+unfolding is_pair
+pair_in_range p c d v = rw (lt-ltb p.stamp.count 65536 c, lt-ltb p.stamp.desk 4 d, lt-ltb p.value 4294967296 v)
 
 -- ---- no place filled
 
 module _ (s : ℕ) where
-  pub no-generators : goodGenerators s [] ≡ true
-  unfolding goodGenerators allHold all distinct
-  no-generators = refl
+  pub no_generators : good_generators s [] ≡ true
+  unfolding good_generators all_hold all distinct
+  no_generators = refl
 
-  pub no-transfers : goodTransfers s [] ≡ true
-  unfolding goodTransfers allHold all distinct
-  no-transfers = refl
+  pub no_transfers : good_transfers s [] ≡ true
+  unfolding good_transfers all_hold all distinct
+  no_transfers = refl
 
 -- ---- no view
 
 module _ {n : ℕ} (l : List ℕ) (e : n ≡ length l) where
-  pub none-count : eqb n 0 ≡ none l
-  none-count = rw e (go l)
+  pub none_count : eqb n 0 ≡ none l
+  none_count = rw e (go l)
     where
       go : (l : List ℕ) → eqb (length l) 0 ≡ none l
       go [] = refl

@@ -1,15 +1,15 @@
 -- What the code tests of each row of a buffer: that what it means is good, and that its bytes are the bytes of that, so that unused room is zero.
 -- Assumes nothing.
 use Rattle.std.specs.Prelude.{Bool, true, false, List, [], ℕ, ◌+◌, ◌*◌, ◌-◌, eqb, length, get_or}
-use Rattle.rows.specs.Tests.{all, allZero}
-use Rattle.rules.specs.Sets.{if◌then◌else◌, ◌&&◌, ◌||◌, relayCount, deskCount, placeCount, seatCount}
+use Rattle.rows.specs.Tests.{all, all_zero}
+use Rattle.rules.specs.Sets.{if◌then◌else◌, ◌&&◌, ◌||◌, relay_count, desk_count, place_count, seat_count}
 use Rattle.rules.specs.Messages.{Body}
 use Rattle.rules.specs.State.{Place, waiting}
-use Rattle.rules.specs.WellFormed.{goodGenerator, goodTransfer, goodRelay, goodDesk, goodPlace, otherView, otherMove}
-use Rattle.layout.specs.Layout.{generatorWidth, transferWidth, worldZeros, worldRest, relayBegin, generatorsBegin, transfersBegin, deskBegin, placeBegin}
-use Rattle.layout.specs.Image.{headBytes, generatorBytes, transferBytes, deskBytes, placeBytes, generatorAt, transferAt, deskAt, row_at, place_in}
-use Rattle.state.specs.Meaning.{relayOf}
-use Rattle.image.specs.Parts.{headAt}
+use Rattle.rules.specs.WellFormed.{good_generator, good_transfer, good_relay, good_desk, good_place, other_view, other_move}
+use Rattle.layout.specs.Layout.{generator_width, transfer_width, world_zeros, world_rest, relay_begin, generators_begin, transfers_begin, desk_begin, place_begin}
+use Rattle.layout.specs.Image.{head_bytes, generator_bytes, transfer_bytes, desk_bytes, place_bytes, generator_at, transfer_at, desk_at, row_at, place_in}
+use Rattle.state.specs.Meaning.{relay_of}
+use Rattle.image.specs.Parts.{head_at}
 
 -- the bytes b stand in l from o on
 unfoldable pub held : List ℕ → ℕ → List ℕ → Bool
@@ -22,47 +22,47 @@ sent s r x = waiting (record { from = s; to = r; body = x })
 -- ---- one row, from o on
 
 -- a relay but for its tables
-unfoldable pub headGood : List ℕ → ℕ → ℕ → Bool
-headGood l s o = goodRelay s (relayOf (headAt l o) [] []) && held l o (headBytes (relayOf (headAt l o) [] []))
+unfoldable pub head_good : List ℕ → ℕ → ℕ → Bool
+head_good l s o = good_relay s (relay_of (head_at l o) [] []) && held l o (head_bytes (relay_of (head_at l o) [] []))
 
-unfoldable pub deskGood : List ℕ → ℕ → Bool
-deskGood l o = goodDesk (deskAt l o) && held l o (deskBytes (deskAt l o))
+unfoldable pub desk_good : List ℕ → ℕ → Bool
+desk_good l o = good_desk (desk_at l o) && held l o (desk_bytes (desk_at l o))
 
-unfoldable pub placeGood : List ℕ → ℕ → Bool
-placeGood l o = goodPlace (place_in (row_at l o)) && held l o (placeBytes (place_in (row_at l o)))
+unfoldable pub place_good : List ℕ → ℕ → Bool
+place_good l o = good_place (place_in (row_at l o)) && held l o (place_bytes (place_in (row_at l o)))
 
 -- ---- a relay's two tables: of its generators where g is true, else of its transfers; each row is n wide
 
 -- the row from o on
-unfoldable pub rowGood : Bool → List ℕ → ℕ → ℕ → Bool
-rowGood g l s o =
-    if g then goodGenerator s (generatorAt l o) && held l o (generatorBytes (generatorAt l o))
-    else (goodTransfer s (transferAt l o) && held l o (transferBytes (transferAt l o)))
+unfoldable pub row_good : Bool → List ℕ → ℕ → ℕ → Bool
+row_good g l s o =
+    if g then good_generator s (generator_at l o) && held l o (generator_bytes (generator_at l o))
+    else (good_transfer s (transfer_at l o) && held l o (transfer_bytes (transfer_at l o)))
 
 -- the rows from a and from b on name different views, or different pairs
-unfoldable pub otherRow : Bool → List ℕ → ℕ → ℕ → Bool
-otherRow g l a b = if g then otherView (generatorAt l a) (generatorAt l b) else otherMove (transferAt l a) (transferAt l b)
+unfoldable pub other_row : Bool → List ℕ → ℕ → ℕ → Bool
+other_row g l a b = if g then other_view (generator_at l a) (generator_at l b) else other_move (transfer_at l a) (transfer_at l b)
 
 -- what is read at place i differs from what is read at each place before it
 unfoldable pub differs : {A : Type 0} → (A → A → Bool) → (ℕ → A) → ℕ → Bool
 differs differ at i = all i (λ j. differ (at j) (at i))
 
 -- place i differs from those before it and is good
-unfoldable pub placeFilled : Bool → ℕ → List ℕ → ℕ → ℕ → ℕ → Bool
-placeFilled g n l s o i = differs (otherRow g l) (λ j. o + j * n) i && rowGood g l s (o + i * n)
+unfoldable pub place_filled : Bool → ℕ → List ℕ → ℕ → ℕ → ℕ → Bool
+place_filled g n l s o i = differs (other_row g l) (λ j. o + j * n) i && row_good g l s (o + i * n)
 
 -- "generator and transfer places name different views or pairs and are filled from the lowest": it is so, or from place i on all is zero
-unfoldable pub filledGood : Bool → ℕ → List ℕ → ℕ → ℕ → ℕ → Bool
-filledGood g n l s o i = allZero l (o + i * n) ((seatCount - i) * n) || placeFilled g n l s o i
+unfoldable pub filled_good : Bool → ℕ → List ℕ → ℕ → ℕ → ℕ → Bool
+filled_good g n l s o i = all_zero l (o + i * n) ((seat_count - i) * n) || place_filled g n l s o i
 
 -- ---- a relay, and all rows of a world
 
-unfoldable pub relayGood : List ℕ → ℕ → Bool
-relayGood l s =
-    headGood l s (relayBegin s)
-    && (all seatCount (filledGood true generatorWidth l s (generatorsBegin s)) && all seatCount (filledGood false transferWidth l s (transfersBegin s)))
+unfoldable pub relay_good : List ℕ → ℕ → Bool
+relay_good l s =
+    head_good l s (relay_begin s)
+    && (all seat_count (filled_good true generator_width l s (generators_begin s)) && all seat_count (filled_good false transfer_width l s (transfers_begin s)))
 
-unfoldable pub rowsGood : List ℕ → Bool
-rowsGood l =
-    all relayCount (relayGood l)
-    && (all deskCount (λ n. deskGood l (deskBegin n)) && (all placeCount (λ p. placeGood l (placeBegin p)) && allZero l worldZeros worldRest))
+unfoldable pub rows_good : List ℕ → Bool
+rows_good l =
+    all relay_count (relay_good l)
+    && (all desk_count (λ n. desk_good l (desk_begin n)) && (all place_count (λ p. place_good l (place_begin p)) && all_zero l world_zeros world_rest))

@@ -2,14 +2,14 @@
 ghost use Rattle.std.specs.Prelude.{◌≡◌, ◌+◌, ◌*◌, ◌≤◌, length};
 ghost use Rattle.rows.specs.Tests.{all};
 ghost use Rattle.rules.specs.declared.Phase.TheVariants.{Idle, Read1, Read2, Write1, Write2};
-ghost use Rattle.rules.specs.WellFormed.{goodBest, noBest, goodPhase, goodDesk};
-ghost use Rattle.layout.specs.Layout.{deskWidth, worldWidth, deskBegin};
-ghost use Rattle.good.specs.Rows.{deskGood};
+ghost use Rattle.rules.specs.WellFormed.{good_best, no_best, good_phase, good_desk};
+ghost use Rattle.layout.specs.Layout.{desk_width, world_width, desk_begin};
+ghost use Rattle.good.specs.Rows.{desk_good};
 
 use rules::{Desk, Phase};
 
 fn no_best(d: Desk) -> bool
-    ensures { result ≡ noBest d }
+    ensures { result ≡ no_best d }
 {
     let best = d.best;
     if !super::parts::is_zero_pair(best) {
@@ -19,7 +19,7 @@ fn no_best(d: Desk) -> bool
 }
 
 fn good_best(d: Desk) -> bool
-    ensures { result ≡ goodBest d }
+    ensures { result ≡ good_best d }
 {
     let best = d.best;
     if !super::parts::good_pair(best) {
@@ -32,7 +32,7 @@ fn good_best(d: Desk) -> bool
 }
 
 fn good_idle(d: Desk) -> bool
-    ensures { result ≡ goodPhase Idle d }
+    ensures { result ≡ good_phase Idle d }
 {
     let holds = d.holds;
     if !super::parts::is_zero_pair(holds) {
@@ -45,7 +45,7 @@ fn good_idle(d: Desk) -> bool
 }
 
 fn good_read1(d: Desk) -> bool
-    ensures { result ≡ goodPhase Read1 d }
+    ensures { result ≡ good_phase Read1 d }
 {
     let holds = d.holds;
     if !super::parts::is_zero_pair(holds) {
@@ -55,7 +55,7 @@ fn good_read1(d: Desk) -> bool
 }
 
 fn good_write1(d: Desk) -> bool
-    ensures { result ≡ goodPhase Write1 d }
+    ensures { result ≡ good_phase Write1 d }
 {
     let holds = d.holds;
     if holds.stamp.count != 0 {
@@ -69,7 +69,7 @@ fn good_write1(d: Desk) -> bool
 
 // Phase 2, of a read and of a write.
 fn good_second(d: Desk) -> bool
-    ensures { (result ≡ goodPhase Read2 d) × (result ≡ goodPhase Write2 d) }
+    ensures { (result ≡ good_phase Read2 d) × (result ≡ good_phase Write2 d) }
 {
     let holds = d.holds;
     if !super::parts::good_pair(holds) {
@@ -79,7 +79,7 @@ fn good_second(d: Desk) -> bool
 }
 
 fn good_phase(d: Desk) -> bool
-    ensures { result ≡ goodPhase d.phase d }
+    ensures { result ≡ good_phase d.phase d }
 {
     let phase = d.phase;
     match phase {
@@ -92,7 +92,7 @@ fn good_phase(d: Desk) -> bool
 }
 
 fn good_desk(d: Desk) -> bool
-    ensures { result ≡ goodDesk d }
+    ensures { result ≡ good_desk d }
 {
     if !super::parts::are_members(d.replied, d.view) {
         return false;
@@ -101,8 +101,8 @@ fn good_desk(d: Desk) -> bool
 }
 
 fn good_desk_row(w: &[u8], at: usize) -> bool
-    requires { at + deskWidth ≤ length w.now }
-    ensures { result ≡ deskGood w.now at }
+    requires { at + desk_width ≤ length w.now }
+    ensures { result ≡ desk_good w.now at }
 {
     let d = image::desk_at(w, at);
     if !good_desk(d) {
@@ -114,8 +114,8 @@ fn good_desk_row(w: &[u8], at: usize) -> bool
 }
 
 pub(crate) fn good_desks(w: &[u8]) -> bool
-    requires { length w.now ≡ worldWidth }
-    ensures { result ≡ all 4 (λ n. deskGood w.now (deskBegin n)) }
+    requires { length w.now ≡ world_width }
+    ensures { result ≡ all 4 (λ n. desk_good w.now (desk_begin n)) }
 {
     for n in 0..rules::DESKS {
         if !good_desk_row(w, layout::WORLD_DESKS + n * layout::DESK_WIDTH) {

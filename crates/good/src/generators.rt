@@ -1,16 +1,16 @@
 // A relay's eight generators.
 ghost use Rattle.std.specs.Prelude.{◌≡◌, true, ◌+◌, ◌≤◌, length};
-ghost use Rattle.views.specs.Row.{viewsOf};
-ghost use Rattle.rules.specs.WellFormed.{goodNote, goodNotes, goodGenerator};
-ghost use Rattle.layout.specs.Layout.{generatorWidth};
-ghost use Rattle.state.specs.Meaning.{notesOf, generatorOf};
-ghost use Rattle.good.specs.Rows.{rowGood};
+ghost use Rattle.views.specs.Row.{views_of};
+ghost use Rattle.rules.specs.WellFormed.{good_note, good_notes, good_generator};
+ghost use Rattle.layout.specs.Layout.{generator_width};
+ghost use Rattle.state.specs.Meaning.{notes_of, generator_of};
+ghost use Rattle.good.specs.Rows.{row_good};
 
 use state::{Generator, Notes};
 use views::Sequence;
 
 fn good_note(v: u16, s: u8, q: Sequence) -> bool
-    ensures { result ≡ goodNote v s (viewsOf q) }
+    ensures { result ≡ good_note v s (views_of q) }
 {
     if !views::above(v, q) {
         return false;
@@ -22,7 +22,7 @@ fn good_note(v: u16, s: u8, q: Sequence) -> bool
 }
 
 fn good_notes(v: u16, n: Notes) -> bool
-    ensures { result ≡ goodNotes v (notesOf n) }
+    ensures { result ≡ good_notes v (notes_of n) }
 {
     let of = n.of;
     for i in 0..8usize {
@@ -35,7 +35,7 @@ fn good_notes(v: u16, n: Notes) -> bool
 }
 
 fn good_generator(s: u8, g: Generator) -> bool
-    ensures { result ≡ goodGenerator s (generatorOf g) }
+    ensures { result ≡ good_generator s (generator_of g) }
 {
     let v = g.view;
     let own = g.own;
@@ -65,8 +65,8 @@ fn good_generator(s: u8, g: Generator) -> bool
 }
 
 pub(crate) fn good_generator_row(w: &[u8], s: u8, at: usize) -> bool
-    requires { at + generatorWidth ≤ length w.now }
-    ensures { result ≡ rowGood true w.now s at }
+    requires { at + generator_width ≤ length w.now }
+    ensures { result ≡ row_good true w.now s at }
 {
     let g = image::generator_at(w, at);
     if !good_generator(s, g) {

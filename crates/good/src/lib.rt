@@ -1,7 +1,7 @@
 // Document 01, "The world": whether a lent buffer is a good world. Each row is read, what it means is tested by the rules' own conditions, and what was read
 // is written to a row of its own and compared, so that no byte is left unseen.
 ghost use Rattle.std.specs.Prelude.{◌≡◌};
-ghost use Rattle.layout.specs.Image.{goodBytes};
+ghost use Rattle.layout.specs.Image.{good_bytes};
 
 mod desks;
 mod generators;
@@ -12,7 +12,7 @@ mod tables;
 mod transfers;
 
 pub fn is_good(w: &[u8]) -> bool
-    ensures { result ≡ goodBytes w.now }
+    ensures { result ≡ good_bytes w.now }
 {
     if w.len() != layout::WORLD_WIDTH {
         return false;

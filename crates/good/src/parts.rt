@@ -1,8 +1,8 @@
 // What rows of several kinds have in them.
 ghost use Rattle.std.specs.Prelude.{◌≡◌, ◌+◌, ◌≤◌, length};
-ghost use Rattle.views.specs.Row.{viewsOf};
+ghost use Rattle.views.specs.Row.{views_of};
 ghost use Rattle.rules.specs.Sets.{members, within};
-ghost use Rattle.rules.specs.WellFormed.{isPair, isZeroPair, goodMove, goodInstalled};
+ghost use Rattle.rules.specs.WellFormed.{is_pair, is_zero_pair, good_move, good_installed};
 ghost use Rattle.good.specs.Rows.{held};
 
 use stamps::Pair;
@@ -22,13 +22,13 @@ pub(crate) fn same_part(a: &[u8], w: &[u8], at: usize) -> bool
 }
 
 pub(crate) fn good_pair(p: Pair) -> bool
-    ensures { result ≡ isPair p }
+    ensures { result ≡ is_pair p }
 {
     p.stamp.desk < 4
 }
 
 pub(crate) fn is_zero_pair(p: Pair) -> bool
-    ensures { result ≡ isZeroPair p }
+    ensures { result ≡ is_zero_pair p }
 {
     if p.stamp.count != 0 {
         return false;
@@ -41,7 +41,7 @@ pub(crate) fn is_zero_pair(p: Pair) -> bool
 
 // An old view and a new one.
 pub(crate) fn good_move(o: u16, w: u16) -> bool
-    ensures { result ≡ goodMove o w }
+    ensures { result ≡ good_move o w }
 {
     if views::members(o) == 0 {
         return false;
@@ -51,7 +51,7 @@ pub(crate) fn good_move(o: u16, w: u16) -> bool
 
 // An install's sequence.
 pub(crate) fn good_installed(o: u16, w: u16, q: Sequence) -> bool
-    ensures { result ≡ goodInstalled o w (viewsOf q) }
+    ensures { result ≡ good_installed o w (views_of q) }
 {
     if views::count(q) == 0 {
         return false;

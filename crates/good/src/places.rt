@@ -1,21 +1,21 @@
 // The 256 places of messages.
 ghost use Rattle.std.specs.Prelude.{◌≡◌, not, ◌+◌, ◌*◌, ◌≤◌, ◌<◌, eqb, ltb, length};
 ghost use Rattle.rows.specs.Tests.{all};
-ghost use Rattle.views.specs.Row.{viewsOf};
+ghost use Rattle.views.specs.Row.{views_of};
 ghost use Rattle.rules.specs.Sets.{◌&&◌, joins, leaves, member, within};
-ghost use Rattle.rules.specs.Messages.{request, view, proposal, converged, install, state, get, put, viewReply, pairReply, ack};
+ghost use Rattle.rules.specs.Messages.{request, view, proposal, converged, install, state, get, put, view_reply, pair_reply, ack};
 ghost use Rattle.rules.specs.State.{waiting};
-ghost use Rattle.rules.specs.WellFormed.{isDesk, goodRequest, goodPlace};
-ghost use Rattle.layout.specs.Layout.{messageWidth, worldWidth, placeBegin};
-ghost use Rattle.state.specs.Meaning.{messageOf};
-ghost use Rattle.good.specs.Rows.{sent, placeGood};
+ghost use Rattle.rules.specs.WellFormed.{is_desk, good_request, good_place};
+ghost use Rattle.layout.specs.Layout.{message_width, world_width, place_begin};
+ghost use Rattle.state.specs.Meaning.{message_of};
+ghost use Rattle.good.specs.Rows.{sent, place_good};
 
 use stamps::Pair;
 use state::Message;
 use views::Sequence;
 
 fn is_desk(who: u8) -> bool
-    ensures { result ≡ isDesk who }
+    ensures { result ≡ is_desk who }
 {
     if who < 8 {
         return false;
@@ -35,7 +35,7 @@ fn between(v: u16, w: u16, from: u8, to: u8) -> bool
 
 // From a desk to a member of the view asked for.
 fn asked(c: u16, from: u8, to: u8) -> bool
-    ensures { result ≡ (isDesk from && member c to) }
+    ensures { result ≡ (is_desk from && member c to) }
 {
     if !is_desk(from) {
         return false;
@@ -45,7 +45,7 @@ fn asked(c: u16, from: u8, to: u8) -> bool
 
 // From a relay to a desk.
 fn replied(from: u8, to: u8) -> bool
-    ensures { result ≡ (ltb from 8 && isDesk to) }
+    ensures { result ≡ (ltb from 8 && is_desk to) }
 {
     if 8 <= from {
         return false;
@@ -77,7 +77,7 @@ fn asks_to_leave(s: u8, u: u16, c: u16) -> bool
 
 fn good_update(s: u8, u: u16, c: u16) -> bool
     requires { s < 8 }
-    ensures { result ≡ goodRequest s u c }
+    ensures { result ≡ good_request s u c }
 {
     if asks_to_join(s, u, c) {
         return true;
@@ -86,7 +86,7 @@ fn good_update(s: u8, u: u16, c: u16) -> bool
 }
 
 fn good_request(from: u8, to: u8, u: u16, c: u16) -> bool
-    ensures { result ≡ goodPlace (sent from to (request u c)) }
+    ensures { result ≡ good_place (sent from to (request u c)) }
 {
     if 8 <= from {
         return false;
@@ -98,7 +98,7 @@ fn good_request(from: u8, to: u8, u: u16, c: u16) -> bool
 }
 
 fn good_view(from: u8, to: u8, v: u16) -> bool
-    ensures { result ≡ goodPlace (sent from to (view v)) }
+    ensures { result ≡ good_place (sent from to (view v)) }
 {
     if 8 <= from {
         return false;
@@ -111,7 +111,7 @@ fn good_view(from: u8, to: u8, v: u16) -> bool
 
 // A proposal, and a convergence.
 fn good_proposal(from: u8, to: u8, v: u16, q: Sequence) -> bool
-    ensures { (result ≡ goodPlace (sent from to (proposal v (viewsOf q)))) × (result ≡ goodPlace (sent from to (converged v (viewsOf q)))) }
+    ensures { (result ≡ good_place (sent from to (proposal v (views_of q)))) × (result ≡ good_place (sent from to (converged v (views_of q)))) }
 {
     if !between(v, v, from, to) {
         return false;
@@ -123,7 +123,7 @@ fn good_proposal(from: u8, to: u8, v: u16, q: Sequence) -> bool
 }
 
 fn good_install(from: u8, to: u8, o: u16, w: u16, q: Sequence) -> bool
-    ensures { result ≡ goodPlace (sent from to (install o w (viewsOf q))) }
+    ensures { result ≡ good_place (sent from to (install o w (views_of q))) }
 {
     if !super::parts::good_move(o, w) {
         return false;
@@ -138,7 +138,7 @@ fn good_install(from: u8, to: u8, o: u16, w: u16, q: Sequence) -> bool
 }
 
 fn good_state(from: u8, to: u8, o: u16, w: u16, p: Pair, u: u16) -> bool
-    ensures { result ≡ goodPlace (sent from to (state o w p u)) }
+    ensures { result ≡ good_place (sent from to (state o w p u)) }
 {
     if !super::parts::good_move(o, w) {
         return false;
@@ -150,13 +150,13 @@ fn good_state(from: u8, to: u8, o: u16, w: u16, p: Pair, u: u16) -> bool
 }
 
 fn good_get(from: u8, to: u8, tries: u16, c: u16) -> bool
-    ensures { result ≡ goodPlace (sent from to (get tries c)) }
+    ensures { result ≡ good_place (sent from to (get tries c)) }
 {
     asked(c, from, to)
 }
 
 fn good_put(from: u8, to: u8, tries: u16, c: u16, p: Pair) -> bool
-    ensures { result ≡ goodPlace (sent from to (put tries c p)) }
+    ensures { result ≡ good_place (sent from to (put tries c p)) }
 {
     if !asked(c, from, to) {
         return false;
@@ -165,13 +165,13 @@ fn good_put(from: u8, to: u8, tries: u16, c: u16, p: Pair) -> bool
 }
 
 fn good_view_reply(from: u8, to: u8, tries: u16, v: u16) -> bool
-    ensures { result ≡ goodPlace (sent from to (viewReply tries v)) }
+    ensures { result ≡ good_place (sent from to (view_reply tries v)) }
 {
     replied(from, to)
 }
 
 fn good_pair_reply(from: u8, to: u8, tries: u16, p: Pair) -> bool
-    ensures { result ≡ goodPlace (sent from to (pairReply tries p)) }
+    ensures { result ≡ good_place (sent from to (pair_reply tries p)) }
 {
     if !super::parts::good_pair(p) {
         return false;
@@ -180,13 +180,13 @@ fn good_pair_reply(from: u8, to: u8, tries: u16, p: Pair) -> bool
 }
 
 fn good_ack(from: u8, to: u8, tries: u16) -> bool
-    ensures { result ≡ goodPlace (sent from to (ack tries)) }
+    ensures { result ≡ good_place (sent from to (ack tries)) }
 {
     replied(from, to)
 }
 
 fn good_message(m: Message) -> bool
-    ensures { result ≡ goodPlace (waiting (messageOf m)) }
+    ensures { result ≡ good_place (waiting (message_of m)) }
 {
     let from = m.from;
     let to = m.to;
@@ -210,8 +210,8 @@ fn good_message(m: Message) -> bool
 }
 
 fn good_place_row(w: &[u8], at: usize) -> bool
-    requires { at + messageWidth ≤ length w.now }
-    ensures { result ≡ placeGood w.now at }
+    requires { at + message_width ≤ length w.now }
+    ensures { result ≡ place_good w.now at }
 {
     let kind = rows::byte_at(w, at);
     if kind == layout::NO_KIND {
@@ -235,8 +235,8 @@ fn good_place_row(w: &[u8], at: usize) -> bool
 }
 
 pub(crate) fn good_places(w: &[u8]) -> bool
-    requires { length w.now ≡ worldWidth }
-    ensures { result ≡ all 256 (λ p. placeGood w.now (placeBegin p)) }
+    requires { length w.now ≡ world_width }
+    ensures { result ≡ all 256 (λ p. place_good w.now (place_begin p)) }
 {
     for p in 0..rules::PLACES {
         if !good_place_row(w, layout::WORLD_PLACES + p * layout::MESSAGE_WIDTH) {

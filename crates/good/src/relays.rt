@@ -2,10 +2,10 @@
 ghost use Rattle.std.specs.Prelude.{◌≡◌, not, [], ◌+◌, ◌≤◌, ◌<◌, eqb, length};
 ghost use Rattle.rows.specs.Tests.{all};
 ghost use Rattle.rules.specs.Sets.{◌&&◌, member};
-ghost use Rattle.rules.specs.WellFormed.{implies, sameBool, goodRelay};
-ghost use Rattle.layout.specs.Layout.{headWidth, worldWidth};
-ghost use Rattle.state.specs.Meaning.{relayOf};
-ghost use Rattle.good.specs.Rows.{headGood, relayGood};
+ghost use Rattle.rules.specs.WellFormed.{implies, same_bool, good_relay};
+ghost use Rattle.layout.specs.Layout.{head_width, world_width};
+ghost use Rattle.state.specs.Meaning.{relay_of};
+ghost use Rattle.good.specs.Rows.{head_good, relay_good};
 
 use state::Head;
 
@@ -24,7 +24,7 @@ fn good_active(active: bool, entered: bool, v: u16, s: u8) -> bool
 
 // "a relay has view 0 exactly when it hasn't entered"
 fn good_entered(entered: bool, v: u16) -> bool
-    ensures { result ≡ sameBool entered (not (eqb v 0)) }
+    ensures { result ≡ same_bool entered (not (eqb v 0)) }
 {
     if entered {
         return v != 0;
@@ -33,7 +33,7 @@ fn good_entered(entered: bool, v: u16) -> bool
 }
 
 fn good_head(s: u8, h: Head) -> bool
-    ensures { result ≡ goodRelay s (relayOf h [] []) }
+    ensures { result ≡ good_relay s (relay_of h [] []) }
 {
     let holds = h.holds;
     if !super::parts::good_pair(holds) {
@@ -46,8 +46,8 @@ fn good_head(s: u8, h: Head) -> bool
 }
 
 fn good_head_row(w: &[u8], s: u8, at: usize) -> bool
-    requires { at + headWidth ≤ length w.now }
-    ensures { result ≡ headGood w.now s at }
+    requires { at + head_width ≤ length w.now }
+    ensures { result ≡ head_good w.now s at }
 {
     let h = image::head_at(w, at);
     if !good_head(s, h) {
@@ -59,8 +59,8 @@ fn good_head_row(w: &[u8], s: u8, at: usize) -> bool
 }
 
 fn good_relay(w: &[u8], s: u8) -> bool
-    requires { (length w.now ≡ worldWidth) × (s < 8) }
-    ensures { result ≡ relayGood w.now s }
+    requires { (length w.now ≡ world_width) × (s < 8) }
+    ensures { result ≡ relay_good w.now s }
 {
     let at = s as usize * layout::RELAY_WIDTH;
     if !good_head_row(w, s, at) {
@@ -85,8 +85,8 @@ fn good_relay(w: &[u8], s: u8) -> bool
 }
 
 pub(crate) fn good_relays(w: &[u8]) -> bool
-    requires { length w.now ≡ worldWidth }
-    ensures { result ≡ all 8 (relayGood w.now) }
+    requires { length w.now ≡ world_width }
+    ensures { result ≡ all 8 (relay_good w.now) }
 {
     for s in 0..8u8 {
         if !good_relay(w, s) {

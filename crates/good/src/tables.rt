@@ -1,14 +1,14 @@
 // A relay's two tables of eight rows: of its generators, and of its transfers.
 ghost use Rattle.std.specs.Prelude.{◌≡◌, not, ◌+◌, ◌*◌, ◌≤◌, ◌<◌, length};
 ghost use Rattle.rows.specs.Tests.{all};
-ghost use Rattle.rules.specs.Sets.{seatCount};
-ghost use Rattle.layout.specs.Layout.{generatorWidth, generatorsWidth};
-ghost use Rattle.good.specs.Rows.{otherRow, differs, placeFilled, filledGood};
+ghost use Rattle.rules.specs.Sets.{seat_count};
+ghost use Rattle.layout.specs.Layout.{generator_width, generators_width};
+ghost use Rattle.good.specs.Rows.{other_row, differs, place_filled, filled_good};
 
 // The rows at a and at b name the same view, or the same old and new one.
 fn same_name(w: &[u8], a: usize, b: usize, generators: bool) -> bool
     requires { (a + 4 ≤ length w.now) × (b + 4 ≤ length w.now) }
-    ensures { not result ≡ otherRow generators w.now a b }
+    ensures { not result ≡ other_row generators w.now a b }
 {
     if generators {
         return rows::read_u16(w, a) == rows::read_u16(w, b);
@@ -21,8 +21,8 @@ fn same_name(w: &[u8], a: usize, b: usize, generators: bool) -> bool
 
 // The rows before place i name others than the one there.
 fn other_names(w: &[u8], at: usize, i: usize, generators: bool, width: usize) -> bool
-    requires { (at + generatorsWidth ≤ length w.now) × ((width ≤ generatorWidth) × (i < seatCount)) }
-    ensures { result ≡ differs (otherRow generators w.now) (λ j. at + j * width) i }
+    requires { (at + generators_width ≤ length w.now) × ((width ≤ generator_width) × (i < seat_count)) }
+    ensures { result ≡ differs (other_row generators w.now) (λ j. at + j * width) i }
 {
     for j in 0..i {
         if same_name(w, at + j * width, at + i * width, generators) {
@@ -34,8 +34,8 @@ fn other_names(w: &[u8], at: usize, i: usize, generators: bool, width: usize) ->
 
 // The row at place i names another than those before it, and is good.
 fn good_place(w: &[u8], s: u8, at: usize, i: usize, generators: bool, width: usize) -> bool
-    requires { (at + generatorsWidth ≤ length w.now) × ((width ≤ generatorWidth) × (i < seatCount)) }
-    ensures { result ≡ placeFilled generators width w.now s at i }
+    requires { (at + generators_width ≤ length w.now) × ((width ≤ generator_width) × (i < seat_count)) }
+    ensures { result ≡ place_filled generators width w.now s at i }
 {
     if !other_names(w, at, i, generators, width) {
         return false;
@@ -49,8 +49,8 @@ fn good_place(w: &[u8], s: u8, at: usize, i: usize, generators: bool, width: usi
 
 // Each place is filled and good, or all is zero from it on.
 pub(crate) fn good_table(w: &[u8], s: u8, at: usize, generators: bool, width: usize) -> bool
-    requires { (at + generatorsWidth ≤ length w.now) × (width ≤ generatorWidth) }
-    ensures { result ≡ all seatCount (filledGood generators width w.now s at) }
+    requires { (at + generators_width ≤ length w.now) × (width ≤ generator_width) }
+    ensures { result ≡ all seat_count (filled_good generators width w.now s at) }
 {
     for i in 0..rules::SEATS {
         if rows::is_zero(w, at + i * width, (rules::SEATS - i) * width) {

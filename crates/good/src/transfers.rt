@@ -1,18 +1,18 @@
 // A relay's eight transfers.
 ghost use Rattle.std.specs.Prelude.{◌≡◌, false, ◌+◌, ◌≤◌, length};
-ghost use Rattle.views.specs.Row.{viewsOf};
+ghost use Rattle.views.specs.Row.{views_of};
 ghost use Rattle.rules.specs.Sets.{◌||◌, none};
-ghost use Rattle.rules.specs.WellFormed.{goodInstalled, goodTransfer};
-ghost use Rattle.layout.specs.Layout.{transferWidth};
-ghost use Rattle.state.specs.Meaning.{transferOf};
-ghost use Rattle.good.specs.Rows.{rowGood};
+ghost use Rattle.rules.specs.WellFormed.{good_installed, good_transfer};
+ghost use Rattle.layout.specs.Layout.{transfer_width};
+ghost use Rattle.state.specs.Meaning.{transfer_of};
+ghost use Rattle.good.specs.Rows.{row_good};
 
 use state::Transfer;
 use views::Sequence;
 
 // A transfer's sequence, if the install has come.
 fn good_sequence(o: u16, w: u16, q: Sequence) -> bool
-    ensures { result ≡ (none (viewsOf q) || goodInstalled o w (viewsOf q)) }
+    ensures { result ≡ (none (views_of q) || good_installed o w (views_of q)) }
 {
     if views::count(q) == 0 {
         return true;
@@ -21,7 +21,7 @@ fn good_sequence(o: u16, w: u16, q: Sequence) -> bool
 }
 
 fn good_transfer(s: u8, t: Transfer) -> bool
-    ensures { result ≡ goodTransfer s (transferOf t) }
+    ensures { result ≡ good_transfer s (transfer_of t) }
 {
     let sequence = t.sequence;
     let best = t.best;
@@ -41,8 +41,8 @@ fn good_transfer(s: u8, t: Transfer) -> bool
 }
 
 pub(crate) fn good_transfer_row(w: &[u8], s: u8, at: usize) -> bool
-    requires { at + transferWidth ≤ length w.now }
-    ensures { result ≡ rowGood false w.now s at }
+    requires { at + transfer_width ≤ length w.now }
+    ensures { result ≡ row_good false w.now s at }
 {
     let t = image::transfer_at(w, at);
     if !good_transfer(s, t) {

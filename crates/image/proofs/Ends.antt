@@ -6,15 +6,15 @@ use native.Mathlib.Nat.{add_assoc, add-zero}
 use native.Mathlib.Decide.{ℕ_discrete}
 use native.Mathlib.Omega.{arith}
 use lib.ListN.{length, get_or, get_or-eq_default}
-use Rattle.rows.specs.Bytes.{number_at, u16At}
-use Rattle.rows.proofs.Laws.{tab-ext}
-use Rattle.layout.specs.Layout.{u16Width, u32Width, sequenceCount, sequenceWidth, pairDesk, pairValue, headEntered, headActive, headView, headKnown}
-use Rattle.layout.specs.Layout.{headPending, headHolds, generatorOwn, generatorConverged, generatorRaised, generatorProposals, generatorConvergences}
-use Rattle.layout.specs.Layout.{transferNew, transferSequence, transferSenders, transferBest, transferGathered, deskPhase, deskView, deskTries, deskHolds}
-use Rattle.layout.specs.Layout.{deskReplied, deskBest, deskAgreed, messageFrom, messageTo, messageFirst, messageSecond, messageTries, messageSequence}
-use Rattle.layout.specs.Layout.{messagePair, messageUpdates}
-use Rattle.layout.specs.Image.{phaseOf, pair_at, deskAt}
-use Rattle.image.specs.Parts.{headAt, countedAt, sequenceRowAt, notesRowAt, generatorRowAt, transferRowAt, messageRowAt}
+use Rattle.rows.specs.Bytes.{number_at, u16_at}
+use Rattle.rows.proofs.Laws.{tab_ext}
+use Rattle.layout.specs.Layout.{u16_width, u32_width, sequence_count, sequence_width, pair_desk, pair_value, head_entered, head_active, head_view, head_known}
+use Rattle.layout.specs.Layout.{head_pending, head_holds, generator_own, generator_converged, generator_raised, generator_proposals, generator_convergences}
+use Rattle.layout.specs.Layout.{transfer_new, transfer_sequence, transfer_senders, transfer_best, transfer_gathered, desk_phase, desk_view, desk_tries, desk_holds}
+use Rattle.layout.specs.Layout.{desk_replied, desk_best, desk_agreed, message_from, message_to, message_first, message_second, message_tries, message_sequence}
+use Rattle.layout.specs.Layout.{message_pair, message_updates}
+use Rattle.layout.specs.Image.{phase_of, pair_at, desk_at}
+use Rattle.image.specs.Parts.{head_at, counted_at, sequence_row_at, notes_row_at, generator_row_at, transfer_row_at, message_row_at}
 
 pub record Alike (l : List ℕ) (i j : ℕ) : Type 0 where
   pub byte : (k : ℕ) → get_or l (i + k) 0 ≡ get_or l (j + k) 0
@@ -36,82 +36,82 @@ module _ {l : List ℕ} {i j : ℕ} (h : Alike l i j) where
   first : get_or l i 0 ≡ get_or l j 0
   first = rw (add-zero i, add-zero j) at (h.byte 0)
 
-  number-alike : (n : ℕ) → number_at n l i ≡ number_at n l j
+  number_alike : (n : ℕ) → number_at n l i ≡ number_at n l j
   unfolding number_at
-  number-alike zero = refl
-  number-alike (suc n) = rw (number-alike n, h.byte n)
+  number_alike zero = refl
+  number_alike (suc n) = rw (number_alike n, h.byte n)
 
-u16-alike : {l : List ℕ} {i j : ℕ} → Alike l i j → (n : ℕ) → u16At l (i + n) ≡ u16At l (j + n)
-u16-alike h n = number-alike (on h n) 2
+u16_alike : {l : List ℕ} {i j : ℕ} → Alike l i j → (n : ℕ) → u16_at l (i + n) ≡ u16_at l (j + n)
+u16_alike h n = number_alike (on h n) 2
 
 module _ {l : List ℕ} {i j : ℕ} (h : Alike l i j) where
-  pub sequence-alike : sequenceRowAt l i ≡ sequenceRowAt l j
-  unfolding sequenceRowAt
-  sequence-alike = rw (tab-ext 15 (countedAt l i) (countedAt l j) (λ k p. rw (h.byte sequenceCount, u16-alike h (2 * k))), h.byte sequenceCount)
+  pub sequence_alike : sequence_row_at l i ≡ sequence_row_at l j
+  unfolding sequence_row_at
+  sequence_alike = rw (tab_ext 15 (counted_at l i) (counted_at l j) (λ k p. rw (h.byte sequence_count, u16_alike h (2 * k))), h.byte sequence_count)
 
-  pub pair-alike : pair_at l i ≡ pair_at l j
+  pub pair_alike : pair_at l i ≡ pair_at l j
   unfolding pair_at
-  pair-alike = cc (number-alike h u16Width, h.byte pairDesk, number-alike (on h pairValue) u32Width)
+  pair_alike = cc (number_alike h u16_width, h.byte pair_desk, number_alike (on h pair_value) u32_width)
 
-pub notes-alike : {l : List ℕ} {i j : ℕ} → Alike l i j → notesRowAt l i ≡ notesRowAt l j
-unfolding notesRowAt
-notes-alike {l} {i} {j} h = rw (tab-ext 8 (λ k. sequenceRowAt l (i + k * sequenceWidth)) (λ k. sequenceRowAt l (j + k * sequenceWidth)) (λ k p. sequence-alike (on h (k * sequenceWidth))))
+pub notes_alike : {l : List ℕ} {i j : ℕ} → Alike l i j → notes_row_at l i ≡ notes_row_at l j
+unfolding notes_row_at
+notes_alike {l} {i} {j} h = rw (tab_ext 8 (λ k. sequence_row_at l (i + k * sequence_width)) (λ k. sequence_row_at l (j + k * sequence_width)) (λ k p. sequence_alike (on h (k * sequence_width))))
 
 module _ {l : List ℕ} {i j : ℕ} (h : Alike l i j) where
-  pub head-alike : headAt l i ≡ headAt l j
-  unfolding headAt
-  head-alike =
-      cc (first h, h.byte headEntered, h.byte headActive, u16-alike h headView, u16-alike h headKnown, u16-alike h headPending, pair-alike (on h headHolds))
+  pub head_alike : head_at l i ≡ head_at l j
+  unfolding head_at
+  head_alike =
+      cc (first h, h.byte head_entered, h.byte head_active, u16_alike h head_view, u16_alike h head_known, u16_alike h head_pending, pair_alike (on h head_holds))
 
-  pub generator-alike : generatorRowAt l i ≡ generatorRowAt l j
-  unfolding generatorRowAt
-  generator-alike =
+  pub generator_alike : generator_row_at l i ≡ generator_row_at l j
+  unfolding generator_row_at
+  generator_alike =
       cc (
-        number-alike h 2,
-        sequence-alike (on h generatorOwn),
-        sequence-alike (on h generatorConverged),
-        sequence-alike (on h generatorRaised),
-        notes-alike (on h generatorProposals),
-        notes-alike (on h generatorConvergences),
+        number_alike h 2,
+        sequence_alike (on h generator_own),
+        sequence_alike (on h generator_converged),
+        sequence_alike (on h generator_raised),
+        notes_alike (on h generator_proposals),
+        notes_alike (on h generator_convergences),
       )
 
-  pub transfer-alike : transferRowAt l i ≡ transferRowAt l j
-  unfolding transferRowAt
-  transfer-alike =
+  pub transfer_alike : transfer_row_at l i ≡ transfer_row_at l j
+  unfolding transfer_row_at
+  transfer_alike =
       cc (
-        number-alike h u16Width,
-        u16-alike h transferNew,
-        sequence-alike (on h transferSequence),
-        h.byte transferSenders,
-        pair-alike (on h transferBest),
-        u16-alike h transferGathered,
+        number_alike h u16_width,
+        u16_alike h transfer_new,
+        sequence_alike (on h transfer_sequence),
+        h.byte transfer_senders,
+        pair_alike (on h transfer_best),
+        u16_alike h transfer_gathered,
       )
 
-  pub desk-alike : deskAt l i ≡ deskAt l j
-  unfolding deskAt
-  desk-alike =
+  pub desk_alike : desk_at l i ≡ desk_at l j
+  unfolding desk_at
+  desk_alike =
       cc (
         first h,
-        u16-alike h deskView,
-        u16-alike h deskTries,
-        pair-alike (on h deskHolds),
-        h.byte deskReplied,
-        pair-alike (on h deskBest),
-        h.byte deskAgreed,
-        ap phaseOf (h.byte deskPhase),
+        u16_alike h desk_view,
+        u16_alike h desk_tries,
+        pair_alike (on h desk_holds),
+        h.byte desk_replied,
+        pair_alike (on h desk_best),
+        h.byte desk_agreed,
+        ap phase_of (h.byte desk_phase),
       )
 
-  pub message-alike : messageRowAt l i ≡ messageRowAt l j
-  unfolding messageRowAt
-  message-alike =
+  pub message_alike : message_row_at l i ≡ message_row_at l j
+  unfolding message_row_at
+  message_alike =
       cc (
         first h,
-        h.byte messageFrom,
-        h.byte messageTo,
-        u16-alike h messageFirst,
-        u16-alike h messageSecond,
-        u16-alike h messageTries,
-        sequence-alike (on h messageSequence),
-        pair-alike (on h messagePair),
-        u16-alike h messageUpdates,
+        h.byte message_from,
+        h.byte message_to,
+        u16_alike h message_first,
+        u16_alike h message_second,
+        u16_alike h message_tries,
+        sequence_alike (on h message_sequence),
+        pair_alike (on h message_pair),
+        u16_alike h message_updates,
       )

@@ -3,13 +3,13 @@
 // end, so that what is added to its index stays in range.
 ghost use Rattle.std.specs.Prelude.{◌≡◌, [], ◌+◌, ◌≤◌, length};
 ghost use Rattle.rows.specs.Bytes.{placed};
-ghost use Rattle.views.specs.Row.{viewsOf};
-ghost use Rattle.layout.specs.Layout.{generatorWidth};
-ghost use Rattle.layout.specs.Image.{sequenceBytes, pair_at, headBytes, generatorBytes};
-ghost use Rattle.layout.specs.Image.{transferBytes, phaseNumber, phaseOf, deskBytes, deskAt, rowBytes};
-ghost use Rattle.state.specs.Meaning.{notesOf, generatorOf, transferOf, relayOf};
-ghost use Rattle.image.specs.Parts.{notesBytes, headAt, messageRow};
-ghost use Rattle.image.specs.Parts.{sequenceRowAt, notesRowAt, generatorRowAt, transferRowAt, messageRowAt};
+ghost use Rattle.views.specs.Row.{views_of};
+ghost use Rattle.layout.specs.Layout.{generator_width};
+ghost use Rattle.layout.specs.Image.{sequence_bytes, pair_at, head_bytes, generator_bytes};
+ghost use Rattle.layout.specs.Image.{transfer_bytes, phase_number, phase_of, desk_bytes, desk_at, row_bytes};
+ghost use Rattle.state.specs.Meaning.{notes_of, generator_of, transfer_of, relay_of};
+ghost use Rattle.image.specs.Parts.{notes_bytes, head_at, message_row};
+ghost use Rattle.image.specs.Parts.{sequence_row_at, notes_row_at, generator_row_at, transfer_row_at, message_row_at};
 
 use layout::{BYTE, U16, U32};
 use rules::{Desk, Phase};
@@ -18,7 +18,7 @@ use state::{Body, Generator, Head, Message, Notes, Transfer};
 use views::Sequence;
 
 pub fn sequence_at(s: &[u8], at: usize) -> Sequence
-    ensures { result ≡ sequenceRowAt s.now at }
+    ensures { result ≡ sequence_row_at s.now at }
 {
     let a = rows::smaller(at, s.len());
     let len = rows::byte_at(s, a + layout::SEQUENCE_COUNT) as usize;
@@ -31,7 +31,7 @@ pub fn sequence_at(s: &[u8], at: usize) -> Sequence
 }
 
 pub fn put_sequence(s: &mut [u8], at: usize, q: Sequence)
-    ensures { s.new ≡ placed s.old at (sequenceBytes (viewsOf q)) }
+    ensures { s.new ≡ placed s.old at (sequence_bytes (views_of q)) }
 {
     if !rows::has_room(s.len(), at, layout::SEQUENCE_WIDTH) {
         return;
@@ -62,7 +62,7 @@ pub fn pair_at(s: &[u8], at: usize) -> Pair
 }
 
 pub fn head_at(s: &[u8], at: usize) -> Head
-    ensures { result ≡ headAt s.now at }
+    ensures { result ≡ head_at s.now at }
 {
     let a = rows::smaller(at, s.len());
     let alive = rows::byte_at(s, a) == 1;
@@ -84,7 +84,7 @@ pub fn head_at(s: &[u8], at: usize) -> Head
 }
 
 pub fn put_head(s: &mut [u8], at: usize, h: Head)
-    ensures { s.new ≡ placed s.old at (headBytes (relayOf h [] [])) }
+    ensures { s.new ≡ placed s.old at (head_bytes (relay_of h [] [])) }
 {
     let holds = h.holds;
     let widths = [
@@ -114,7 +114,7 @@ pub fn put_head(s: &mut [u8], at: usize, h: Head)
 }
 
 pub fn notes_at(s: &[u8], at: usize) -> Notes
-    ensures { result ≡ notesRowAt s.now at }
+    ensures { result ≡ notes_row_at s.now at }
 {
     let a = rows::smaller(at, s.len());
     let mut of = [views::empty(); rules::RELAYS];
@@ -125,7 +125,7 @@ pub fn notes_at(s: &[u8], at: usize) -> Notes
 }
 
 pub fn put_notes(s: &mut [u8], at: usize, n: Notes)
-    ensures { s.new ≡ placed s.old at (notesBytes (notesOf n)) }
+    ensures { s.new ≡ placed s.old at (notes_bytes (notes_of n)) }
 {
     if !rows::has_room(s.len(), at, layout::NOTES_WIDTH) {
         return;
@@ -138,7 +138,7 @@ pub fn put_notes(s: &mut [u8], at: usize, n: Notes)
 }
 
 pub fn generator_at(s: &[u8], at: usize) -> Generator
-    ensures { result ≡ generatorRowAt s.now at }
+    ensures { result ≡ generator_row_at s.now at }
 {
     let a = rows::smaller(at, s.len());
     let view = rows::read_u16(s, a);
@@ -158,8 +158,8 @@ pub fn generator_at(s: &[u8], at: usize) -> Generator
 }
 
 fn put_generator_fields(s: &mut [u8], at: usize, g: Generator)
-    requires { at + generatorWidth ≤ length s.old }
-    ensures { s.new ≡ placed s.old at (generatorBytes (generatorOf g)) }
+    requires { at + generator_width ≤ length s.old }
+    ensures { s.new ≡ placed s.old at (generator_bytes (generator_of g)) }
 {
     let own = g.own;
     let converged = g.converged;
@@ -176,7 +176,7 @@ fn put_generator_fields(s: &mut [u8], at: usize, g: Generator)
 }
 
 pub fn put_generator(s: &mut [u8], at: usize, g: Generator)
-    ensures { s.new ≡ placed s.old at (generatorBytes (generatorOf g)) }
+    ensures { s.new ≡ placed s.old at (generator_bytes (generator_of g)) }
 {
     if !rows::has_room(s.len(), at, layout::GENERATOR_WIDTH) {
         return;
@@ -185,7 +185,7 @@ pub fn put_generator(s: &mut [u8], at: usize, g: Generator)
 }
 
 pub fn transfer_at(s: &[u8], at: usize) -> Transfer
-    ensures { result ≡ transferRowAt s.now at }
+    ensures { result ≡ transfer_row_at s.now at }
 {
     let a = rows::smaller(at, s.len());
     let old = rows::read_u16(s, a);
@@ -205,7 +205,7 @@ pub fn transfer_at(s: &[u8], at: usize) -> Transfer
 }
 
 pub fn put_transfer(s: &mut [u8], at: usize, t: Transfer)
-    ensures { s.new ≡ placed s.old at (transferBytes (transferOf t)) }
+    ensures { s.new ≡ placed s.old at (transfer_bytes (transfer_of t)) }
 {
     let sequence = t.sequence;
     let best = t.best;
@@ -228,7 +228,7 @@ pub fn put_transfer(s: &mut [u8], at: usize, t: Transfer)
 }
 
 fn phase_number(p: Phase) -> u8
-    ensures { result ≡ phaseNumber p }
+    ensures { result ≡ phase_number p }
 {
     match p {
         Phase::Idle => 0,
@@ -240,7 +240,7 @@ fn phase_number(p: Phase) -> u8
 }
 
 fn phase_of(n: u8) -> Phase
-    ensures { result ≡ phaseOf n }
+    ensures { result ≡ phase_of n }
 {
     if n == 1 {
         return Phase::Read1;
@@ -258,7 +258,7 @@ fn phase_of(n: u8) -> Phase
 }
 
 pub fn desk_at(s: &[u8], at: usize) -> Desk
-    ensures { result ≡ deskAt s.now at }
+    ensures { result ≡ desk_at s.now at }
 {
     let a = rows::smaller(at, s.len());
     let alive = rows::byte_at(s, a) == 1;
@@ -282,7 +282,7 @@ pub fn desk_at(s: &[u8], at: usize) -> Desk
 }
 
 pub fn put_desk(s: &mut [u8], at: usize, d: Desk)
-    ensures { s.new ≡ placed s.old at (deskBytes d) }
+    ensures { s.new ≡ placed s.old at (desk_bytes d) }
 {
     let phase = d.phase;
     let number = phase_number(phase);
@@ -321,7 +321,7 @@ pub fn put_desk(s: &mut [u8], at: usize, d: Desk)
 }
 
 pub fn message_at(s: &[u8], at: usize) -> Message
-    ensures { result ≡ messageRowAt s.now at }
+    ensures { result ≡ message_row_at s.now at }
 {
     let a = rows::smaller(at, s.len());
     let kind = rows::byte_at(s, a);
@@ -346,7 +346,7 @@ pub fn message_at(s: &[u8], at: usize) -> Message
 }
 
 pub fn put_message(s: &mut [u8], at: usize, m: Message)
-    ensures { s.new ≡ placed s.old at (rowBytes (messageRow m)) }
+    ensures { s.new ≡ placed s.old at (row_bytes (message_row m)) }
 {
     let b = m.body;
     let sequence = b.sequence;

@@ -11,21 +11,21 @@ use lib.ListN.{length, get_or, replicate}
 use lib.Pow.{pow-lt}
 use borrow.Author.Tests.{eqb-true, ltb-true, leb-true, ne_eqb}
 use Rattle.views.proofs.Truth.{either_true, contrary}
-use Rattle.views.proofs.Sets.{within-le, within-fact, inside-fact, inside-lt, members-lt, member-lt, member-not-empty}
-use Rattle.views.proofs.Nested.{Above, above-none, above_more, above-fact, above-fits}
-use Rattle.rules.specs.Sets.{◌&&◌, ◌||◌, joins, leaves, member, members, within, above, none, all, allHold}
-use Rattle.rules.specs.Stamps.{Pair, zeroPair}
-use Rattle.rules.specs.Messages.{Body, request, view, proposal, converged, install, state, get, put, viewReply, pairReply, ack, Message}
+use Rattle.views.proofs.Sets.{within_le, within_fact, inside_fact, inside_lt, members_lt, member_lt, member_not_empty}
+use Rattle.views.proofs.Nested.{Above, above_none, above_more, above_fact, above_fits}
+use Rattle.rules.specs.Sets.{◌&&◌, ◌||◌, joins, leaves, member, members, within, above, none, all, all_hold}
+use Rattle.rules.specs.Stamps.{Pair, zero_pair}
+use Rattle.rules.specs.Messages.{Body, request, view, proposal, converged, install, state, get, put, view_reply, pair_reply, ack, Message}
 use Rattle.rules.specs.State.{Generator, Transfer, Relay, Place, free, waiting}
 use Rattle.rules.specs.declared.Desk.{Desk}
 use Rattle.rules.specs.declared.Phase.{Phase}
 use Rattle.rules.specs.declared.Phase.TheVariants.{Idle, Read1, Read2, Write1, Write2}
 use Rattle.rules.specs.Generators.{fresh}
-use Rattle.rules.specs.Relays.{freshTransfer}
-use Rattle.rules.specs.WellFormed.{isView, isStamp, isPair, isZeroPair, implies, all_from, distinct, goodNote, goodNotes, goodGenerator, goodMove, goodInstalled, goodTransfer, otherView, otherMove, goodGenerators, goodTransfers, goodRelay, goodBest, noBest, goodPhase, goodDesk, isDesk, between, asked, replied, goodRequest, goodBody, goodPlace}
-use Rattle.layout.specs.Image.{filledGenerator, filledTransfer, Row, row, bodyRow, placeRow}
-use Rattle.rules.proofs.Serving.{update-small}
-use Rattle.rules.proofs.Hold.{hold-facts, from_at, all-parts}
+use Rattle.rules.specs.Relays.{fresh_transfer}
+use Rattle.rules.specs.WellFormed.{is_view, is_stamp, is_pair, is_zero_pair, implies, all_from, distinct, good_note, good_notes, good_generator, good_move, good_installed, good_transfer, other_view, other_move, good_generators, good_transfers, good_relay, good_best, no_best, good_phase, good_desk, is_desk, between, asked, replied, good_request, good_body, good_place}
+use Rattle.layout.specs.Image.{filled_generator, filled_transfer, Row, row, body_row, place_row}
+use Rattle.rules.proofs.Serving.{update_small}
+use Rattle.rules.proofs.Hold.{hold_facts, from_at, all_parts}
 
 -- ---- what fits
 
@@ -69,8 +69,8 @@ pub record RelayFits (r : Relay) : Type 0 where
   pub known : r.known < 65536
   pub pending : r.pending < 65536
   pub holds : PairFits r.holds
-  pub generators : RowsFit GeneratorFits filledGenerator (fresh 0) r.generators
-  pub transfers : RowsFit TransferFits filledTransfer (freshTransfer 0 0) r.transfers
+  pub generators : RowsFit GeneratorFits filled_generator (fresh 0) r.generators
+  pub transfers : RowsFit TransferFits filled_transfer (fresh_transfer 0 0) r.transfers
 
 pub record DeskFits (d : Desk) : Type 0 where
   pub view : d.view < 65536
@@ -92,31 +92,31 @@ pub record RowFits (m : Row) : Type 0 where
 
 -- ---- a sequence
 
-pub no-views : SequenceFits []
-no-views = record { few = lit≤ tt; each = λ k. lit< tt }
+pub no_views : SequenceFits []
+no_views = record { few = lit≤ tt; each = λ k. lit< tt }
 
-above-each : {v : ℕ} {q : List ℕ} → Above v q → (k : ℕ) → get_or q k 0 < 65536
-above-each above-none k = lit< tt
-above-each (above_more i h a) zero = h
-above-each (above_more i h a) (suc k) = above-each a k
+above_each : {v : ℕ} {q : List ℕ} → Above v q → (k : ℕ) → get_or q k 0 < 65536
+above_each above_none k = lit< tt
+above_each (above_more i h a) zero = h
+above_each (above_more i h a) (suc k) = above_each a k
 
 pub above_fit : (v : ℕ) (q : List ℕ) → v < 65536 → v ≢ 0 → above v q ≡ true → SequenceFits q
 above_fit v q small update e =
-    let a = above-fact v q e in
-    record { few = above-fits small update a; each = above-each a }
+    let a = above_fact v q e in
+    record { few = above_fits small update a; each = above_each a }
 
 -- ---- a pair
 
-pub pair_fits : (p : Pair) → isPair p ≡ true → PairFits p
-unfolding isPair
+pub pair_fits : (p : Pair) → is_pair p ≡ true → PairFits p
+unfolding is_pair
 pair_fits p e =
-    let h = (and-eq-true_iff (isStamp p.stamp) (ltb p.value 4294967296)).0 e in
+    let h = (and-eq-true_iff (is_stamp p.stamp) (ltb p.value 4294967296)).0 e in
     let k = (and-eq-true_iff (ltb p.stamp.count 65536) (ltb p.stamp.desk 4)).0 h.0 in
     let few = ltb-true p.stamp.desk 4 k.1 in
     record { count = ltb-true p.stamp.count 65536 k.0; desk = omega arith; value = ltb-true p.value 4294967296 h.1 }
 
-pub zero-fits : (p : Pair) → isZeroPair p ≡ true → PairFits p
-zero-fits p e =
+pub zero_fits : (p : Pair) → is_zero_pair p ≡ true → PairFits p
+zero_fits p e =
     let h = (and-eq-true_iff (eqb p.stamp.count 0 && eqb p.stamp.desk 0) (eqb p.value 0)).0 e in
     let k = (and-eq-true_iff (eqb p.stamp.count 0) (eqb p.stamp.desk 0)).0 h.0 in
     let c = eqb-true p.stamp.count 0 k.0 in
@@ -124,76 +124,76 @@ zero-fits p e =
     let v = eqb-true p.value 0 h.1 in
     record { count = omega arith; desk = omega arith; value = omega arith }
 
-no-pair : PairFits zeroPair
-no-pair = zero-fits zeroPair refl
+no_pair : PairFits zero_pair
+no_pair = zero_fits zero_pair refl
 
 -- ---- a set of members
 
 mask_fits : (who v : ℕ) → within who (members v) ≡ true → who < 256
-mask_fits who v e = omega (arith, within-le (within-fact who (members v) e), members-lt v)
+mask_fits who v e = omega (arith, within_le (within_fact who (members v) e), members_lt v)
 
 -- ---- a generator
 
-notes-fit : (v : ℕ) (ns : List (List ℕ)) → v < 65536 → v ≢ 0 → goodNotes v ns ≡ true → NotesFit ns
+notes_fit : (v : ℕ) (ns : List (List ℕ)) → v < 65536 → v ≢ 0 → good_notes v ns ≡ true → NotesFit ns
 unfolding above
-notes-fit v ns small update e =
-    let h = (and-eq-true_iff (eqb (length ns) 8) (all_from 0 (goodNote v) ns)).0 e in
+notes_fit v ns small update e =
+    let h = (and-eq-true_iff (eqb (length ns) 8) (all_from 0 (good_note v) ns)).0 e in
     record {
       long = eqb-true (length ns) 8 h.0;
-      each = λ k. above_fit v (get_or ns k []) small update ((and-eq-true_iff (above v (get_or ns k [])) _).0 (from_at (goodNote v) 0 ns k [] h.1 refl)).0;
+      each = λ k. above_fit v (get_or ns k []) small update ((and-eq-true_iff (above v (get_or ns k [])) _).0 (from_at (good_note v) 0 ns k [] h.1 refl)).0;
     }
 
-pub generator-fits : (s : ℕ) (g : Generator) → goodGenerator s g ≡ true → GeneratorFits g
-unfolding goodGenerator
-generator-fits s g e =
-    let h = hold-facts _ e in
+pub generator_fits : (s : ℕ) (g : Generator) → good_generator s g ≡ true → GeneratorFits g
+unfolding good_generator
+generator_fits s g e =
+    let h = hold_facts _ e in
     let v : ℕ = g.view in
     let small = ltb-true v 65536 h.0 in
-    let update = member-not-empty v s h.1.0 in
+    let update = member_not_empty v s h.1.0 in
     record {
       view = small;
       own = above_fit v g.own small update h.1.1.0;
       converged = above_fit v g.converged small update h.1.1.1.0;
       raised = above_fit v g.raised small update h.1.1.1.1.0;
-      proposals = notes-fit v g.proposals small update h.1.1.1.1.1.1.0;
-      convergences = notes-fit v g.convergences small update h.1.1.1.1.1.1.1.0;
+      proposals = notes_fit v g.proposals small update h.1.1.1.1.1.1.0;
+      convergences = notes_fit v g.convergences small update h.1.1.1.1.1.1.1.0;
     }
 
-pub generator-filled : (s : ℕ) (g : Generator) → goodGenerator s g ≡ true → filledGenerator g ≡ true
-unfolding goodGenerator
-generator-filled s g e = rw (ne_eqb g.view 0 (member-not-empty g.view s (hold-facts _ e).1.0))
+pub generator_filled : (s : ℕ) (g : Generator) → good_generator s g ≡ true → filled_generator g ≡ true
+unfolding good_generator
+generator_filled s g e = rw (ne_eqb g.view 0 (member_not_empty g.view s (hold_facts _ e).1.0))
 
-pub replicate-at : {A : Type 0} (n k : ℕ) (d : A) → get_or (replicate n d) k d ≡ d
-replicate-at zero k d = refl
-replicate-at (suc n) zero d = refl
-replicate-at (suc n) (suc k) d = replicate-at n k d
+pub replicate_at : {A : Type 0} (n k : ℕ) (d : A) → get_or (replicate n d) k d ≡ d
+replicate_at zero k d = refl
+replicate_at (suc n) zero d = refl
+replicate_at (suc n) (suc k) d = replicate_at n k d
 
-no-notes : NotesFit (replicate 8 [])
-no-notes = record { long = refl; each = λ k. rw (replicate-at {A = List ℕ} 8 k []) no-views }
+no_notes_lem : NotesFit (replicate 8 [])
+no_notes_lem = record { long = refl; each = λ k. rw (replicate_at {A = List ℕ} 8 k []) no_views }
 
-pub no-generator : GeneratorFits (fresh 0)
+pub no_generator : GeneratorFits (fresh 0)
 unfolding fresh
-no-generator = record { view = lit< tt; own = no-views; converged = no-views; raised = no-views; proposals = no-notes; convergences = no-notes }
+no_generator = record { view = lit< tt; own = no_views; converged = no_views; raised = no_views; proposals = no_notes_lem; convergences = no_notes_lem }
 
 -- ---- a transfer
 
 -- what a good move's old view is
-old-view : (o w : ℕ) → goodMove o w ≡ true → (o < 65536) × ((w < 65536) × (o ≢ 0))
-unfolding goodMove
+old-view : (o w : ℕ) → good_move o w ≡ true → (o < 65536) × ((w < 65536) × (o ≢ 0))
+unfolding good_move
 old-view o w e =
-    let h = hold-facts _ e in
+    let h = hold_facts _ e in
     let small = ltb-true w 65536 h.0 in
-    let lower = inside-lt (inside-fact o w h.1.1.0) in
+    let lower = inside_lt (inside_fact o w h.1.1.0) in
     (omega arith, (small, λ z. contrary (rw z at h.1.0) refl))
 
-plan-fits : (o w : ℕ) (q : List ℕ) → goodMove o w ≡ true → goodInstalled o w q ≡ true → SequenceFits q
-unfolding goodInstalled
-plan-fits o w q m p = let h = old-view o w m in above_fit o q h.0 h.1.1 (hold-facts _ p).1.0
+plan_fits : (o w : ℕ) (q : List ℕ) → good_move o w ≡ true → good_installed o w q ≡ true → SequenceFits q
+unfolding good_installed
+plan_fits o w q m p = let h = old-view o w m in above_fit o q h.0 h.1.1 (hold_facts _ p).1.0
 
-pub transfer-fits : (s : ℕ) (t : Transfer) → goodTransfer s t ≡ true → TransferFits t
-unfolding goodTransfer
-transfer-fits s t e =
-    let h = hold-facts _ e in
+pub transfer_fits : (s : ℕ) (t : Transfer) → good_transfer s t ≡ true → TransferFits t
+unfolding good_transfer
+transfer_fits s t e =
+    let h = hold_facts _ e in
     let v = old-view t.old t.new h.1.0 in
     record {
       old = v.0;
@@ -204,17 +204,17 @@ transfer-fits s t e =
       gathered = ltb-true t.gathered 65536 h.1.1.1.1.1.0;
     }
   where
-    go : (q : List ℕ) → goodMove t.old t.new ≡ true → none q || goodInstalled t.old t.new q ≡ true → SequenceFits q
-    go [] m p = no-views
-    go (w ∷ q) m p = plan-fits t.old t.new (w ∷ q) m p
+    go : (q : List ℕ) → good_move t.old t.new ≡ true → none q || good_installed t.old t.new q ≡ true → SequenceFits q
+    go [] m p = no_views
+    go (w ∷ q) m p = plan_fits t.old t.new (w ∷ q) m p
 
-pub transfer-filled : (s : ℕ) (t : Transfer) → goodTransfer s t ≡ true → filledTransfer t ≡ true
-unfolding goodTransfer
-transfer-filled s t e = rw (ne_eqb t.new 0 (member-not-empty t.new s (hold-facts _ e).0))
+pub transfer_filled : (s : ℕ) (t : Transfer) → good_transfer s t ≡ true → filled_transfer t ≡ true
+unfolding good_transfer
+transfer_filled s t e = rw (ne_eqb t.new 0 (member_not_empty t.new s (hold_facts _ e).0))
 
-pub no-transfer : TransferFits (freshTransfer 0 0)
-unfolding freshTransfer
-no-transfer = record { old = lit< tt; new = lit< tt; sequence = no-views; senders = lit< tt; best = no-pair; gathered = lit< tt }
+pub no_transfer : TransferFits (fresh_transfer 0 0)
+unfolding fresh_transfer
+no_transfer = record { old = lit< tt; new = lit< tt; sequence = no_views; senders = lit< tt; best = no_pair; gathered = lit< tt }
 
 -- ---- a relay
 
@@ -222,57 +222,57 @@ module _ {A : Type 0} (good : A → Bool) (Fits : A → Type 0) (filled : A → 
     (fits : (x : A) → good x ≡ true → Fits x) (none-fits : Fits d) (fill : (x : A) → good x ≡ true → filled x ≡ true) where
   each_fits : (xs : List A) → all good xs ≡ true → (k : ℕ) → Fits (get_or xs k d)
   each_fits [] e k = none-fits
-  each_fits (x ∷ xs) e zero = fits x (all-parts good x xs e).0
-  each_fits (x ∷ xs) e (suc k) = each_fits xs (all-parts good x xs e).1 k
+  each_fits (x ∷ xs) e zero = fits x (all_parts good x xs e).0
+  each_fits (x ∷ xs) e (suc k) = each_fits xs (all_parts good x xs e).1 k
 
-  each-filled : (xs : List A) → all good xs ≡ true → (k : ℕ) → k < length xs → filled (get_or xs k d) ≡ true
-  each-filled [] e k h = absurd (omega arith)
-  each-filled (x ∷ xs) e zero h = fill x (all-parts good x xs e).0
-  each-filled (x ∷ xs) e (suc k) h = each-filled xs (all-parts good x xs e).1 k (le_of_suc-le-suc h)
+  each_filled : (xs : List A) → all good xs ≡ true → (k : ℕ) → k < length xs → filled (get_or xs k d) ≡ true
+  each_filled [] e k h = absurd (omega arith)
+  each_filled (x ∷ xs) e zero h = fill x (all_parts good x xs e).0
+  each_filled (x ∷ xs) e (suc k) h = each_filled xs (all_parts good x xs e).1 k (le_of_suc-le-suc h)
 
-  rows_fit : (differ : A → A → Bool) (xs : List A) → allHold (leb (length xs) 8 ∷ all good xs ∷ distinct differ xs ∷ []) ≡ true → RowsFit Fits filled d xs
+  rows_fit : (differ : A → A → Bool) (xs : List A) → all_hold (leb (length xs) 8 ∷ all good xs ∷ distinct differ xs ∷ []) ≡ true → RowsFit Fits filled d xs
   rows_fit differ xs e =
-      let h = hold-facts _ e in
-      record { few = leb-true (length xs) 8 h.0; each = each_fits xs h.1.0; full = each-filled xs h.1.0 }
+      let h = hold_facts _ e in
+      record { few = leb-true (length xs) 8 h.0; each = each_fits xs h.1.0; full = each_filled xs h.1.0 }
 
-pub relay-fits : (s : ℕ) (r : Relay) → goodRelay s r ≡ true → RelayFits r
-unfolding goodRelay goodGenerators goodTransfers
-relay-fits s r e =
-    let h = hold-facts _ e in
+pub relay_fits : (s : ℕ) (r : Relay) → good_relay s r ≡ true → RelayFits r
+unfolding good_relay good_generators good_transfers
+relay_fits s r e =
+    let h = hold_facts _ e in
     record {
       view = ltb-true r.view 65536 h.0;
       known = ltb-true r.known 65536 h.1.0;
       pending = ltb-true r.pending 65536 h.1.1.0;
       holds = pair_fits r.holds h.1.1.1.0;
       generators =
-          rows_fit (goodGenerator s) GeneratorFits filledGenerator (fresh 0) (generator-fits s) no-generator (generator-filled s) otherView r.generators
+          rows_fit (good_generator s) GeneratorFits filled_generator (fresh 0) (generator_fits s) no_generator (generator_filled s) other_view r.generators
           h.1.1.1.1.1.1.0;
       transfers =
-          rows_fit (goodTransfer s) TransferFits filledTransfer (freshTransfer 0 0) (transfer-fits s) no-transfer (transfer-filled s) otherMove r.transfers
+          rows_fit (good_transfer s) TransferFits filled_transfer (fresh_transfer 0 0) (transfer_fits s) no_transfer (transfer_filled s) other_move r.transfers
           h.1.1.1.1.1.1.1.0;
     }
 
 -- ---- a desk
 
-best-fits : (d : Desk) → goodBest d ≡ true → PairFits d.best
-best-fits d e = pair_fits d.best ((and-eq-true_iff (isPair d.best) (implies (eqb d.replied 0) (noBest d))).0 e).0
+best_fits : (d : Desk) → good_best d ≡ true → PairFits d.best
+best_fits d e = pair_fits d.best ((and-eq-true_iff (is_pair d.best) (implies (eqb d.replied 0) (no_best d))).0 e).0
 
-no-best-fits : (d : Desk) → noBest d ≡ true → PairFits d.best
-no-best-fits d e = zero-fits d.best ((and-eq-true_iff (isZeroPair d.best) (not d.agreed)).0 e).0
+no_best_fits : (d : Desk) → no_best d ≡ true → PairFits d.best
+no_best_fits d e = zero_fits d.best ((and-eq-true_iff (is_zero_pair d.best) (not d.agreed)).0 e).0
 
-pairs-fit : (p : Phase) (d : Desk) → goodPhase p d ≡ true → PairFits d.holds × PairFits d.best
-unfolding goodPhase
-pairs-fit Idle d e = let h = hold-facts _ e in (zero-fits d.holds h.0, no-best-fits d h.1.1.0)
-pairs-fit Read1 d e = let h = hold-facts _ e in (zero-fits d.holds h.0, best-fits d h.1.0)
-pairs-fit Read2 d e = let h = hold-facts _ e in (pair_fits d.holds h.0, no-best-fits d h.1.0)
-pairs-fit Write1 d e = let h = hold-facts _ e in (pair_fits d.holds h.0, best-fits d h.1.1.1.0)
-pairs-fit Write2 d e = let h = hold-facts _ e in (pair_fits d.holds h.0, no-best-fits d h.1.0)
+pairs_fit : (p : Phase) (d : Desk) → good_phase p d ≡ true → PairFits d.holds × PairFits d.best
+unfolding good_phase
+pairs_fit Idle d e = let h = hold_facts _ e in (zero_fits d.holds h.0, no_best_fits d h.1.1.0)
+pairs_fit Read1 d e = let h = hold_facts _ e in (zero_fits d.holds h.0, best_fits d h.1.0)
+pairs_fit Read2 d e = let h = hold_facts _ e in (pair_fits d.holds h.0, no_best_fits d h.1.0)
+pairs_fit Write1 d e = let h = hold_facts _ e in (pair_fits d.holds h.0, best_fits d h.1.1.1.0)
+pairs_fit Write2 d e = let h = hold_facts _ e in (pair_fits d.holds h.0, no_best_fits d h.1.0)
 
-pub desk-fits : (d : Desk) → goodDesk d ≡ true → DeskFits d
-unfolding goodDesk
-desk-fits d e =
-    let h = hold-facts _ e in
-    let p = pairs-fit d.phase d h.1.1.1.0 in
+pub desk_fits : (d : Desk) → good_desk d ≡ true → DeskFits d
+unfolding good_desk
+desk_fits d e =
+    let h = hold_facts _ e in
+    let p = pairs_fit d.phase d h.1.1.1.0 in
     record { view = ltb-true d.view 65536 h.0; tries = ltb-true d.tries 65536 h.1.0; holds = p.0; replied = mask_fits d.replied d.view h.1.1.0; best = p.1 }
 
 -- ---- a message
@@ -283,75 +283,75 @@ numbers_fit : {kind s r first second tries updates : ℕ} {q : List ℕ} {p : Pa
 numbers_fit k e a b t q p u = record { kind = k; from = e.0; to = e.1; first = a; second = b; tries = t; sequence = q; pair = p; updates = u }
 
 -- a sequence that goes between members of v
-kept-fits : (m : Message) (v : ℕ) (q : List ℕ) → allHold (isView v ∷ between v v m ∷ above v q ∷ not (none q) ∷ []) ≡ true → (v < 65536) × SequenceFits q
-kept-fits m v q e =
-    let h = hold-facts _ e in
+kept_fits : (m : Message) (v : ℕ) (q : List ℕ) → all_hold (is_view v ∷ between v v m ∷ above v q ∷ not (none q) ∷ []) ≡ true → (v < 65536) × SequenceFits q
+kept_fits m v q e =
+    let h = hold_facts _ e in
     let small = ltb-true v 65536 h.0 in
     let someone = ((and-eq-true_iff (member v m.from) (member v m.to)).0 h.1.0).0 in
-    (small, above_fit v q small (member-not-empty v m.from someone) h.1.1.0)
+    (small, above_fit v q small (member_not_empty v m.from someone) h.1.1.0)
 
 -- sender and receiver
-both-members : (v w : ℕ) (m : Message) → between v w m ≡ true → (m.from < 256) × (m.to < 256)
-both-members v w m e =
+both_members : (v w : ℕ) (m : Message) → between v w m ≡ true → (m.from < 256) × (m.to < 256)
+both_members v w m e =
     let h = (and-eq-true_iff (member v m.from) (member w m.to)).0 e in
-    let a = member-lt v m.from h.0 in
-    let b = member-lt w m.to h.1 in
+    let a = member_lt v m.from h.0 in
+    let b = member_lt w m.to h.1 in
     (omega arith, omega arith)
 
-desk-small : (who : ℕ) → isDesk who ≡ true → who < 256
-desk-small who e = omega (arith, ltb-true who 12 ((and-eq-true_iff (leb 8 who) (ltb who 12)).0 e).1)
+desk_small : (who : ℕ) → is_desk who ≡ true → who < 256
+desk_small who e = omega (arith, ltb-true who 12 ((and-eq-true_iff (leb 8 who) (ltb who 12)).0 e).1)
 
 ends_asked : (c : ℕ) (m : Message) → asked c m ≡ true → (m.from < 256) × (m.to < 256)
 ends_asked c m e =
-    let h = (and-eq-true_iff (isDesk m.from) (member c m.to)).0 e in
-    (desk-small m.from h.0, omega (arith, member-lt c m.to h.1))
+    let h = (and-eq-true_iff (is_desk m.from) (member c m.to)).0 e in
+    (desk_small m.from h.0, omega (arith, member_lt c m.to h.1))
 
-ends-replied : (m : Message) → replied m ≡ true → (m.from < 256) × (m.to < 256)
-ends-replied m e =
-    let h = (and-eq-true_iff (ltb m.from 8) (isDesk m.to)).0 e in
-    (omega (arith, ltb-true m.from 8 h.0), desk-small m.to h.1)
+ends_replied : (m : Message) → replied m ≡ true → (m.from < 256) × (m.to < 256)
+ends_replied m e =
+    let h = (and-eq-true_iff (ltb m.from 8) (is_desk m.to)).0 e in
+    (omega (arith, ltb-true m.from 8 h.0), desk_small m.to h.1)
 
-ends-fit : (m : Message) (b : Body) → goodBody m b ≡ true → (m.from < 256) × (m.to < 256)
-unfolding goodBody
-ends-fit m (request u c) e =
-    let h = hold-facts _ e in
-    (omega (arith, ltb-true m.from 8 h.0), omega (arith, member-lt c m.to h.1.1.1.0))
-ends-fit m (view v) e = let h = hold-facts _ e in (omega (arith, ltb-true m.from 8 h.0), omega (arith, ltb-true m.to 8 h.1.0))
-ends-fit m (proposal v q) e = both-members v v m (hold-facts _ e).1.0
-ends-fit m (converged v q) e = both-members v v m (hold-facts _ e).1.0
-ends-fit m (install o w q) e = ⊎_elim (both-members o o m) (both-members o w m) (either_true (between o o m) (between o w m) (hold-facts _ e).1.1.0)
-ends-fit m (state o w p u) e = both-members o w m (hold-facts _ e).1.0
-ends-fit m (get try c) e = ends_asked c m (hold-facts _ e).1.1.0
-ends-fit m (put try c p) e = ends_asked c m (hold-facts _ e).1.1.0
-ends-fit m (viewReply try v) e = ends-replied m (hold-facts _ e).1.1.0
-ends-fit m (pairReply try p) e = ends-replied m (hold-facts _ e).1.1.0
-ends-fit m (ack try) e = ends-replied m (hold-facts _ e).1.0
+ends_fit : (m : Message) (b : Body) → good_body m b ≡ true → (m.from < 256) × (m.to < 256)
+unfolding good_body
+ends_fit m (request u c) e =
+    let h = hold_facts _ e in
+    (omega (arith, ltb-true m.from 8 h.0), omega (arith, member_lt c m.to h.1.1.1.0))
+ends_fit m (view v) e = let h = hold_facts _ e in (omega (arith, ltb-true m.from 8 h.0), omega (arith, ltb-true m.to 8 h.1.0))
+ends_fit m (proposal v q) e = both_members v v m (hold_facts _ e).1.0
+ends_fit m (converged v q) e = both_members v v m (hold_facts _ e).1.0
+ends_fit m (install o w q) e = ⊎_elim (both_members o o m) (both_members o w m) (either_true (between o o m) (between o w m) (hold_facts _ e).1.1.0)
+ends_fit m (state o w p u) e = both_members o w m (hold_facts _ e).1.0
+ends_fit m (get try c) e = ends_asked c m (hold_facts _ e).1.1.0
+ends_fit m (put try c p) e = ends_asked c m (hold_facts _ e).1.1.0
+ends_fit m (view_reply try v) e = ends_replied m (hold_facts _ e).1.1.0
+ends_fit m (pair_reply try p) e = ends_replied m (hold_facts _ e).1.1.0
+ends_fit m (ack try) e = ends_replied m (hold_facts _ e).1.0
 
-body-fits : (m : Message) (b : Body) → goodBody m b ≡ true → RowFits (bodyRow m.from m.to b)
-unfolding goodBody
-body-fits m (request u c) e =
-    let h = hold-facts _ e in
-    numbers_fit (lit< tt) (ends-fit m (request u c) e) (ltb-true c 65536 h.1.0) (lit< tt) (lit< tt) no-views no-pair (update-small m.from u c (ltb-true m.from 8 h.0) h.1.1.0)
-body-fits m (view v) e = numbers_fit (lit< tt) (ends-fit m (view v) e) (ltb-true v 65536 (hold-facts _ e).1.1.0) (lit< tt) (lit< tt) no-views no-pair (lit< tt)
-body-fits m (proposal v q) e = let h = kept-fits m v q e in numbers_fit (lit< tt) (ends-fit m (proposal v q) e) h.0 (lit< tt) (lit< tt) h.1 no-pair (lit< tt)
-body-fits m (converged v q) e = let h = kept-fits m v q e in numbers_fit (lit< tt) (ends-fit m (converged v q) e) h.0 (lit< tt) (lit< tt) h.1 no-pair (lit< tt)
-body-fits m (install o w q) e =
-    let h = hold-facts _ e in
+body_fits : (m : Message) (b : Body) → good_body m b ≡ true → RowFits (body_row m.from m.to b)
+unfolding good_body
+body_fits m (request u c) e =
+    let h = hold_facts _ e in
+    numbers_fit (lit< tt) (ends_fit m (request u c) e) (ltb-true c 65536 h.1.0) (lit< tt) (lit< tt) no_views no_pair (update_small m.from u c (ltb-true m.from 8 h.0) h.1.1.0)
+body_fits m (view v) e = numbers_fit (lit< tt) (ends_fit m (view v) e) (ltb-true v 65536 (hold_facts _ e).1.1.0) (lit< tt) (lit< tt) no_views no_pair (lit< tt)
+body_fits m (proposal v q) e = let h = kept_fits m v q e in numbers_fit (lit< tt) (ends_fit m (proposal v q) e) h.0 (lit< tt) (lit< tt) h.1 no_pair (lit< tt)
+body_fits m (converged v q) e = let h = kept_fits m v q e in numbers_fit (lit< tt) (ends_fit m (converged v q) e) h.0 (lit< tt) (lit< tt) h.1 no_pair (lit< tt)
+body_fits m (install o w q) e =
+    let h = hold_facts _ e in
     let v = old-view o w h.0 in
-    numbers_fit (lit< tt) (ends-fit m (install o w q) e) v.0 v.1.0 (lit< tt) (plan-fits o w q h.0 h.1.0) no-pair (lit< tt)
-body-fits m (state o w p u) e =
-    let h = hold-facts _ e in
+    numbers_fit (lit< tt) (ends_fit m (install o w q) e) v.0 v.1.0 (lit< tt) (plan_fits o w q h.0 h.1.0) no_pair (lit< tt)
+body_fits m (state o w p u) e =
+    let h = hold_facts _ e in
     let v = old-view o w h.0 in
-    numbers_fit (lit< tt) (ends-fit m (state o w p u) e) v.0 v.1.0 (lit< tt) no-views (pair_fits p h.1.1.0) (ltb-true u 65536 h.1.1.1.0)
-body-fits m (get try c) e = let h = hold-facts _ e in numbers_fit (lit< tt) (ends-fit m (get try c) e) (ltb-true c 65536 h.1.0) (lit< tt) (ltb-true try 65536 h.0) no-views no-pair (lit< tt)
-body-fits m (put try c p) e =
-    let h = hold-facts _ e in
-    numbers_fit (lit< tt) (ends-fit m (put try c p) e) (ltb-true c 65536 h.1.0) (lit< tt) (ltb-true try 65536 h.0) no-views (pair_fits p h.1.1.1.0) (lit< tt)
-body-fits m (viewReply try v) e = let h = hold-facts _ e in numbers_fit (lit< tt) (ends-fit m (viewReply try v) e) (ltb-true v 65536 h.1.0) (lit< tt) (ltb-true try 65536 h.0) no-views no-pair (lit< tt)
-body-fits m (pairReply try p) e = let h = hold-facts _ e in numbers_fit (lit< tt) (ends-fit m (pairReply try p) e) (lit< tt) (lit< tt) (ltb-true try 65536 h.0) no-views (pair_fits p h.1.0) (lit< tt)
-body-fits m (ack try) e = numbers_fit (lit< tt) (ends-fit m (ack try) e) (lit< tt) (lit< tt) (ltb-true try 65536 (hold-facts _ e).0) no-views no-pair (lit< tt)
+    numbers_fit (lit< tt) (ends_fit m (state o w p u) e) v.0 v.1.0 (lit< tt) no_views (pair_fits p h.1.1.0) (ltb-true u 65536 h.1.1.1.0)
+body_fits m (get try c) e = let h = hold_facts _ e in numbers_fit (lit< tt) (ends_fit m (get try c) e) (ltb-true c 65536 h.1.0) (lit< tt) (ltb-true try 65536 h.0) no_views no_pair (lit< tt)
+body_fits m (put try c p) e =
+    let h = hold_facts _ e in
+    numbers_fit (lit< tt) (ends_fit m (put try c p) e) (ltb-true c 65536 h.1.0) (lit< tt) (ltb-true try 65536 h.0) no_views (pair_fits p h.1.1.1.0) (lit< tt)
+body_fits m (view_reply try v) e = let h = hold_facts _ e in numbers_fit (lit< tt) (ends_fit m (view_reply try v) e) (ltb-true v 65536 h.1.0) (lit< tt) (ltb-true try 65536 h.0) no_views no_pair (lit< tt)
+body_fits m (pair_reply try p) e = let h = hold_facts _ e in numbers_fit (lit< tt) (ends_fit m (pair_reply try p) e) (lit< tt) (lit< tt) (ltb-true try 65536 h.0) no_views (pair_fits p h.1.0) (lit< tt)
+body_fits m (ack try) e = numbers_fit (lit< tt) (ends_fit m (ack try) e) (lit< tt) (lit< tt) (ltb-true try 65536 (hold_facts _ e).0) no_views no_pair (lit< tt)
 
-pub place-fits : (p : Place) → goodPlace p ≡ true → RowFits (placeRow p)
-unfolding goodPlace
-place-fits free e = numbers_fit (lit< tt) (lit< tt, lit< tt) (lit< tt) (lit< tt) (lit< tt) no-views no-pair (lit< tt)
-place-fits (waiting m) e = body-fits m m.body e
+pub place_fits : (p : Place) → good_place p ≡ true → RowFits (place_row p)
+unfolding good_place
+place_fits free e = numbers_fit (lit< tt) (lit< tt, lit< tt) (lit< tt) (lit< tt) (lit< tt) no_views no_pair (lit< tt)
+place_fits (waiting m) e = body_fits m m.body e

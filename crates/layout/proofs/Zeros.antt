@@ -8,14 +8,14 @@ use native.Mathlib.Omega.{arith}
 use lib.ListN.{get_or, replicate}
 use Rattle.rows.specs.Bytes.{be16, run, cat, sum, table, zeros}
 use Rattle.rows.proofs.Numbers.{zeros-number}
-use Rattle.rules.specs.Stamps.{zeroPair}
-use Rattle.rules.specs.State.{noRelay, noDesk, free, World}
+use Rattle.rules.specs.Stamps.{zero_pair}
+use Rattle.rules.specs.State.{no_relay, no_desk, free, World}
 use Rattle.rules.specs.Generators.{fresh}
-use Rattle.rules.specs.Relays.{freshTransfer}
-use Rattle.layout.specs.Layout.{byteWidth, sequenceCount, sequenceWidth, headWidth, notesWidth, generatorWidth, transferWidth, relayWidth, deskWidth}
-use Rattle.layout.specs.Layout.{messageWidth, worldWidth}
-use Rattle.layout.specs.Image.{sequenceBytes, pairBytes, headBytes, generatorBytes, transferBytes, relayBytes, deskBytes, rowBytes, placeBytes, image}
-use Rattle.layout.proofs.Fits.{replicate-at}
+use Rattle.rules.specs.Relays.{fresh_transfer}
+use Rattle.layout.specs.Layout.{byte_width, sequence_count, sequence_width, head_width, notes_width, generator_width, transfer_width, relay_width, desk_width}
+use Rattle.layout.specs.Layout.{message_width, world_width}
+use Rattle.layout.specs.Image.{sequence_bytes, pair_bytes, head_bytes, generator_bytes, transfer_bytes, relay_bytes, desk_bytes, row_bytes, place_bytes, image}
+use Rattle.layout.proofs.Fits.{replicate_at}
 
 -- ---- zeros in pieces
 
@@ -28,9 +28,9 @@ zeros-none : [] ≡ zeros 0
 unfolding zeros run
 zeros-none = refl
 
-one-zero : 0 ∷ [] ≡ zeros 1
+one_zero : 0 ∷ [] ≡ zeros 1
 unfolding zeros run
-one-zero = refl
+one_zero = refl
 
 module _ (w : ℕ) (f : ℕ → List ℕ) (each : (k : ℕ) → f k ≡ zeros w) where
   run-zeros : (n : ℕ) → run n f ≡ zeros (n * w)
@@ -49,64 +49,64 @@ cat-zeros (more {ps = ps} {w = w} {ws = ws} e r) = rw (e, cat-zeros r) (zeros-ap
 
 -- ---- rows
 
-pub pair-zeros : pairBytes zeroPair ≡ zeros 7
-unfolding pairBytes
-pair-zeros = cat-zeros (more (zeros-number 2) (more one-zero (more (zeros-number 4) none)))
+pub pair-zeros : pair_bytes zero_pair ≡ zeros 7
+unfolding pair_bytes
+pair-zeros = cat-zeros (more (zeros-number 2) (more one_zero (more (zeros-number 4) none)))
 
-pub sequence-zeros : sequenceBytes [] ≡ zeros sequenceWidth
-unfolding sequenceBytes
+pub sequence-zeros : sequence_bytes [] ≡ zeros sequence_width
+unfolding sequence_bytes
 sequence-zeros =
     ap (λ (l : List ℕ). l ++ (0 ∷ [])) (run-zeros 2 (λ k. be16 0) (λ k. zeros-number 2) 15)
-    ∙ ap (λ (l : List ℕ). zeros sequenceCount ++ l) one-zero
-    ∙ zeros-append sequenceCount byteWidth
+    ∙ ap (λ (l : List ℕ). zeros sequence_count ++ l) one_zero
+    ∙ zeros-append sequence_count byte_width
 
 -- a table of nothing but d's rows
 module _ {A : Type 0} (enc : A → List ℕ) (d : A) (w : ℕ) (blank : enc d ≡ zeros w) where
   table-zeros : (n m : ℕ) → table enc d n (replicate m d) ≡ zeros (n * w)
-  table-zeros n m = run-zeros w (λ k. enc (get_or (replicate m d) k d)) (λ k. ap enc (replicate-at m k d) ∙ blank) n
+  table-zeros n m = run-zeros w (λ k. enc (get_or (replicate m d) k d)) (λ k. ap enc (replicate_at m k d) ∙ blank) n
 
-pub generator-zeros : generatorBytes (fresh 0) ≡ zeros generatorWidth
-unfolding generatorBytes fresh
-generator-zeros =
+pub generator_zeros_lem : generator_bytes (fresh 0) ≡ zeros generator_width
+unfolding generator_bytes fresh
+generator_zeros_lem =
     cat-zeros (more (zeros-number 2) (more sequence-zeros (more sequence-zeros (more sequence-zeros (more notes (more notes (more refl none)))))))
   where
-    notes : table sequenceBytes [] 8 (replicate 8 []) ≡ zeros notesWidth
-    notes = table-zeros sequenceBytes [] sequenceWidth sequence-zeros 8 8
+    notes : table sequence_bytes [] 8 (replicate 8 []) ≡ zeros notes_width
+    notes = table-zeros sequence_bytes [] sequence_width sequence-zeros 8 8
 
-pub transfer-zeros : transferBytes (freshTransfer 0 0) ≡ zeros transferWidth
-unfolding transferBytes freshTransfer
-transfer-zeros =
-    cat-zeros (more (zeros-number 2) (more (zeros-number 2) (more sequence-zeros (more one-zero (more pair-zeros (more (zeros-number 2) (more refl none)))))))
+pub transfer_zeros_lem : transfer_bytes (fresh_transfer 0 0) ≡ zeros transfer_width
+unfolding transfer_bytes fresh_transfer
+transfer_zeros_lem =
+    cat-zeros (more (zeros-number 2) (more (zeros-number 2) (more sequence-zeros (more one_zero (more pair-zeros (more (zeros-number 2) (more refl none)))))))
 
-pub relay-zeros : relayBytes noRelay ≡ zeros relayWidth
-unfolding relayBytes headBytes
-relay-zeros =
-    cat-zeros (more head (more (table-zeros generatorBytes (fresh 0) generatorWidth generator-zeros 8 0) (more (table-zeros transferBytes (freshTransfer 0 0) transferWidth transfer-zeros 8 0) none)))
+pub relay_zeros : relay_bytes no_relay ≡ zeros relay_width
+unfolding relay_bytes head_bytes
+relay_zeros =
+    cat-zeros (more head (more (table-zeros generator_bytes (fresh 0) generator_width generator_zeros_lem 8 0) (more (table-zeros transfer_bytes (fresh_transfer 0 0) transfer_width transfer_zeros_lem 8 0) none)))
   where
-    head : headBytes noRelay ≡ zeros headWidth
+    head : head_bytes no_relay ≡ zeros head_width
     head =
-        cat-zeros (more one-zero (more one-zero (more one-zero (more (zeros-number 2) (more (zeros-number 2) (more (zeros-number 2)
+        cat-zeros (more one_zero (more one_zero (more one_zero (more (zeros-number 2) (more (zeros-number 2) (more (zeros-number 2)
         (more pair-zeros (more refl none))))))))
 
-pub desk-zeros : deskBytes noDesk ≡ zeros deskWidth
-unfolding deskBytes
+pub desk-zeros : desk_bytes no_desk ≡ zeros desk_width
+unfolding desk_bytes
 desk-zeros =
-    cat-zeros (more one-zero (more one-zero (more (zeros-number 2) (more (zeros-number 2) (more pair-zeros (more one-zero (more pair-zeros
-    (more one-zero (more refl none)))))))))
+    cat-zeros (more one_zero (more one_zero (more (zeros-number 2) (more (zeros-number 2) (more pair-zeros (more one_zero (more pair-zeros
+    (more one_zero (more refl none)))))))))
 
-pub place-zeros : placeBytes free ≡ zeros messageWidth
-unfolding placeBytes rowBytes
+pub place-zeros : place_bytes free ≡ zeros message_width
+unfolding place_bytes row_bytes
 place-zeros =
-    cat-zeros (more one-zero (more one-zero (more one-zero (more (zeros-number 2) (more (zeros-number 2) (more (zeros-number 2)
+    cat-zeros (more one_zero (more one_zero (more one_zero (more (zeros-number 2) (more (zeros-number 2) (more (zeros-number 2)
     (more sequence-zeros (more pair-zeros (more (zeros-number 2) (more refl none))))))))))
 
 -- ---- a world of nothing: where a start begins
 
-abbrev pub noWorld : World
-noWorld = record { relays = replicate 8 noRelay; desks = replicate 4 noDesk; places = replicate 256 free }
+abbrev pub no_world : World
+no_world = record { relays = replicate 8 no_relay; desks = replicate 4 no_desk; places = replicate 256 free }
 
-pub image-zeros : image noWorld ≡ zeros worldWidth
+pub image-zeros : image no_world ≡ zeros world_width
 unfolding image
 image-zeros =
-    cat-zeros (more (table-zeros relayBytes noRelay relayWidth relay-zeros 8 8) (more (table-zeros deskBytes noDesk deskWidth desk-zeros 4 4)
-    (more (table-zeros placeBytes free messageWidth place-zeros 256 256) (more refl none))))
+    cat-zeros (more (table-zeros relay_bytes no_relay relay_width relay_zeros 8 8) (more (table-zeros desk_bytes no_desk desk_width desk-zeros 4 4)
+    (more (table-zeros place_bytes free message_width place-zeros 256 256) (more refl none))))

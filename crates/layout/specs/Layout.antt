@@ -1,307 +1,307 @@
 -- Where each field of a row stands, and how wide each row is: a row's fields in their order, each where the one before it ends. A field more is one line here.
 -- (The first stands where the row begins. What is left up to a row's width is zero.) Numbers are high byte first. Assumes nothing.
 use Rattle.std.specs.Prelude.{ℕ, ◌+◌, ◌*◌, ◌-◌}
-use Rattle.rules.specs.Sets.{viewCount, relayCount, deskCount, placeCount, seatCount}
+use Rattle.rules.specs.Sets.{view_count, relay_count, desk_count, place_count, seat_count}
 
 -- ---- How wide one field is: a flag, a small number or a set of relays; a view, a try or a count; a value
 
-abbrev pub byteWidth : ℕ
-byteWidth = 1
+abbrev pub byte_width : ℕ
+byte_width = 1
 
-abbrev pub u16Width : ℕ
-u16Width = 2
+abbrev pub u16_width : ℕ
+u16_width = 2
 
-abbrev pub u32Width : ℕ
-u32Width = 4
+abbrev pub u32_width : ℕ
+u32_width = 4
 
 -- ---- A sequence: "at most 15" views, and how many there are
 
-abbrev pub sequenceViews : ℕ
-sequenceViews = 0
+abbrev pub sequence_views : ℕ
+sequence_views = 0
 
-abbrev pub sequenceCount : ℕ
-sequenceCount = sequenceViews + viewCount * u16Width
+abbrev pub sequence_count : ℕ
+sequence_count = sequence_views + view_count * u16_width
 
-abbrev pub sequenceWidth : ℕ
-sequenceWidth = sequenceCount + byteWidth
+abbrev pub sequence_width : ℕ
+sequence_width = sequence_count + byte_width
 
 -- ---- A stamp and its value
 
-abbrev pub pairCount : ℕ
-pairCount = 0
+abbrev pub pair_count : ℕ
+pair_count = 0
 
-abbrev pub pairDesk : ℕ
-pairDesk = pairCount + u16Width
+abbrev pub pair_desk : ℕ
+pair_desk = pair_count + u16_width
 
-abbrev pub pairValue : ℕ
-pairValue = pairDesk + byteWidth
+abbrev pub pair_value : ℕ
+pair_value = pair_desk + byte_width
 
-abbrev pub pairWidth : ℕ
-pairWidth = pairValue + u32Width
+abbrev pub pair_width : ℕ
+pair_width = pair_value + u32_width
 
 -- ---- A relay's head: alive, entered, active, view, known view, pending updates, stamp and value, zeros
 
-abbrev pub headAlive : ℕ
-headAlive = 0
+abbrev pub head_alive : ℕ
+head_alive = 0
 
-abbrev pub headEntered : ℕ
-headEntered = headAlive + byteWidth
+abbrev pub head_entered : ℕ
+head_entered = head_alive + byte_width
 
-abbrev pub headActive : ℕ
-headActive = headEntered + byteWidth
+abbrev pub head_active : ℕ
+head_active = head_entered + byte_width
 
-abbrev pub headView : ℕ
-headView = headActive + byteWidth
+abbrev pub head_view : ℕ
+head_view = head_active + byte_width
 
-abbrev pub headKnown : ℕ
-headKnown = headView + u16Width
+abbrev pub head_known : ℕ
+head_known = head_view + u16_width
 
-abbrev pub headPending : ℕ
-headPending = headKnown + u16Width
+abbrev pub head_pending : ℕ
+head_pending = head_known + u16_width
 
-abbrev pub headHolds : ℕ
-headHolds = headPending + u16Width
+abbrev pub head_holds : ℕ
+head_holds = head_pending + u16_width
 
-abbrev pub headZeros : ℕ
-headZeros = headHolds + pairWidth
+abbrev pub head_zeros : ℕ
+head_zeros = head_holds + pair_width
 
-abbrev pub headWidth : ℕ
-headWidth = 64
+abbrev pub head_width : ℕ
+head_width = 64
 
-abbrev pub headRest : ℕ
-headRest = headWidth - headZeros
+abbrev pub head_rest : ℕ
+head_rest = head_width - head_zeros
 
 -- ---- A generator: view, own, converged and raised sequence, the eight's proposals and convergences, a zero
 
-abbrev pub notesWidth : ℕ
-notesWidth = relayCount * sequenceWidth
+abbrev pub notes_width : ℕ
+notes_width = relay_count * sequence_width
 
-abbrev pub generatorView : ℕ
-generatorView = 0
+abbrev pub generator_view : ℕ
+generator_view = 0
 
-abbrev pub generatorOwn : ℕ
-generatorOwn = generatorView + u16Width
+abbrev pub generator_own : ℕ
+generator_own = generator_view + u16_width
 
-abbrev pub generatorConverged : ℕ
-generatorConverged = generatorOwn + sequenceWidth
+abbrev pub generator_converged : ℕ
+generator_converged = generator_own + sequence_width
 
-abbrev pub generatorRaised : ℕ
-generatorRaised = generatorConverged + sequenceWidth
+abbrev pub generator_raised : ℕ
+generator_raised = generator_converged + sequence_width
 
-abbrev pub generatorProposals : ℕ
-generatorProposals = generatorRaised + sequenceWidth
+abbrev pub generator_proposals : ℕ
+generator_proposals = generator_raised + sequence_width
 
-abbrev pub generatorConvergences : ℕ
-generatorConvergences = generatorProposals + notesWidth
+abbrev pub generator_convergences : ℕ
+generator_convergences = generator_proposals + notes_width
 
-abbrev pub generatorZeros : ℕ
-generatorZeros = generatorConvergences + notesWidth
+abbrev pub generator_zeros : ℕ
+generator_zeros = generator_convergences + notes_width
 
-abbrev pub generatorWidth : ℕ
-generatorWidth = 592
+abbrev pub generator_width : ℕ
+generator_width = 592
 
-abbrev pub generatorRest : ℕ
-generatorRest = generatorWidth - generatorZeros
+abbrev pub generator_rest : ℕ
+generator_rest = generator_width - generator_zeros
 
 -- ---- A transfer: old view, new view, sequence, who has sent state, best stamp and value, updates gathered, zeros
 
-abbrev pub transferOld : ℕ
-transferOld = 0
+abbrev pub transfer_old : ℕ
+transfer_old = 0
 
-abbrev pub transferNew : ℕ
-transferNew = transferOld + u16Width
+abbrev pub transfer_new : ℕ
+transfer_new = transfer_old + u16_width
 
-abbrev pub transferSequence : ℕ
-transferSequence = transferNew + u16Width
+abbrev pub transfer_sequence : ℕ
+transfer_sequence = transfer_new + u16_width
 
-abbrev pub transferSenders : ℕ
-transferSenders = transferSequence + sequenceWidth
+abbrev pub transfer_senders : ℕ
+transfer_senders = transfer_sequence + sequence_width
 
-abbrev pub transferBest : ℕ
-transferBest = transferSenders + byteWidth
+abbrev pub transfer_best : ℕ
+transfer_best = transfer_senders + byte_width
 
-abbrev pub transferGathered : ℕ
-transferGathered = transferBest + pairWidth
+abbrev pub transfer_gathered : ℕ
+transfer_gathered = transfer_best + pair_width
 
-abbrev pub transferZeros : ℕ
-transferZeros = transferGathered + u16Width
+abbrev pub transfer_zeros : ℕ
+transfer_zeros = transfer_gathered + u16_width
 
-abbrev pub transferWidth : ℕ
-transferWidth = 80
+abbrev pub transfer_width : ℕ
+transfer_width = 80
 
-abbrev pub transferRest : ℕ
-transferRest = transferWidth - transferZeros
+abbrev pub transfer_rest : ℕ
+transfer_rest = transfer_width - transfer_zeros
 
 -- ---- A relay: its head, 8 generators, 8 transfers
 
-abbrev pub generatorsWidth : ℕ
-generatorsWidth = seatCount * generatorWidth
+abbrev pub generators_width : ℕ
+generators_width = seat_count * generator_width
 
-abbrev pub transfersWidth : ℕ
-transfersWidth = seatCount * transferWidth
+abbrev pub transfers_width : ℕ
+transfers_width = seat_count * transfer_width
 
-abbrev pub relayHead : ℕ
-relayHead = 0
+abbrev pub relay_head : ℕ
+relay_head = 0
 
-abbrev pub relayGenerators : ℕ
-relayGenerators = relayHead + headWidth
+abbrev pub relay_generators : ℕ
+relay_generators = relay_head + head_width
 
-abbrev pub relayTransfers : ℕ
-relayTransfers = relayGenerators + generatorsWidth
+abbrev pub relay_transfers : ℕ
+relay_transfers = relay_generators + generators_width
 
-abbrev pub relayWidth : ℕ
-relayWidth = relayTransfers + transfersWidth
+abbrev pub relay_width : ℕ
+relay_width = relay_transfers + transfers_width
 
 -- ---- A desk: alive, phase, view, try, stamp and value, who replied, best reply, agreed, zeros
 
-abbrev pub deskAlive : ℕ
-deskAlive = 0
+abbrev pub desk_alive : ℕ
+desk_alive = 0
 
-abbrev pub deskPhase : ℕ
-deskPhase = deskAlive + byteWidth
+abbrev pub desk_phase : ℕ
+desk_phase = desk_alive + byte_width
 
-abbrev pub deskView : ℕ
-deskView = deskPhase + byteWidth
+abbrev pub desk_view : ℕ
+desk_view = desk_phase + byte_width
 
-abbrev pub deskTries : ℕ
-deskTries = deskView + u16Width
+abbrev pub desk_tries : ℕ
+desk_tries = desk_view + u16_width
 
-abbrev pub deskHolds : ℕ
-deskHolds = deskTries + u16Width
+abbrev pub desk_holds : ℕ
+desk_holds = desk_tries + u16_width
 
-abbrev pub deskReplied : ℕ
-deskReplied = deskHolds + pairWidth
+abbrev pub desk_replied : ℕ
+desk_replied = desk_holds + pair_width
 
-abbrev pub deskBest : ℕ
-deskBest = deskReplied + byteWidth
+abbrev pub desk_best : ℕ
+desk_best = desk_replied + byte_width
 
-abbrev pub deskAgreed : ℕ
-deskAgreed = deskBest + pairWidth
+abbrev pub desk_agreed : ℕ
+desk_agreed = desk_best + pair_width
 
-abbrev pub deskZeros : ℕ
-deskZeros = deskAgreed + byteWidth
+abbrev pub desk_zeros : ℕ
+desk_zeros = desk_agreed + byte_width
 
-abbrev pub deskWidth : ℕ
-deskWidth = 64
+abbrev pub desk_width : ℕ
+desk_width = 64
 
-abbrev pub deskRest : ℕ
-deskRest = deskWidth - deskZeros
+abbrev pub desk_rest : ℕ
+desk_rest = desk_width - desk_zeros
 
 -- ---- A message: kind (0: the place is free), sender, receiver, two views, try, sequence, stamp and value, updates, zeros
 
-abbrev pub messageKind : ℕ
-messageKind = 0
+abbrev pub message_kind : ℕ
+message_kind = 0
 
-abbrev pub messageFrom : ℕ
-messageFrom = messageKind + byteWidth
+abbrev pub message_from : ℕ
+message_from = message_kind + byte_width
 
-abbrev pub messageTo : ℕ
-messageTo = messageFrom + byteWidth
+abbrev pub message_to : ℕ
+message_to = message_from + byte_width
 
-abbrev pub messageFirst : ℕ
-messageFirst = messageTo + byteWidth
+abbrev pub message_first : ℕ
+message_first = message_to + byte_width
 
-abbrev pub messageSecond : ℕ
-messageSecond = messageFirst + u16Width
+abbrev pub message_second : ℕ
+message_second = message_first + u16_width
 
-abbrev pub messageTries : ℕ
-messageTries = messageSecond + u16Width
+abbrev pub message_tries : ℕ
+message_tries = message_second + u16_width
 
-abbrev pub messageSequence : ℕ
-messageSequence = messageTries + u16Width
+abbrev pub message_sequence : ℕ
+message_sequence = message_tries + u16_width
 
-abbrev pub messagePair : ℕ
-messagePair = messageSequence + sequenceWidth
+abbrev pub message_pair : ℕ
+message_pair = message_sequence + sequence_width
 
-abbrev pub messageUpdates : ℕ
-messageUpdates = messagePair + pairWidth
+abbrev pub message_updates : ℕ
+message_updates = message_pair + pair_width
 
-abbrev pub messageZeros : ℕ
-messageZeros = messageUpdates + u16Width
+abbrev pub message_zeros : ℕ
+message_zeros = message_updates + u16_width
 
-abbrev pub messageWidth : ℕ
-messageWidth = 80
+abbrev pub message_width : ℕ
+message_width = 80
 
-abbrev pub messageRest : ℕ
-messageRest = messageWidth - messageZeros
+abbrev pub message_rest : ℕ
+message_rest = message_width - message_zeros
 
 -- ---- The kinds of messages, as a row numbers them
 
-abbrev pub noKind : ℕ
-noKind = 0
+abbrev pub no_kind : ℕ
+no_kind = 0
 
-abbrev pub requestKind : ℕ
-requestKind = 1
+abbrev pub request_kind : ℕ
+request_kind = 1
 
-abbrev pub viewKind : ℕ
-viewKind = 2
+abbrev pub view_kind : ℕ
+view_kind = 2
 
-abbrev pub proposalKind : ℕ
-proposalKind = 3
+abbrev pub proposal_kind : ℕ
+proposal_kind = 3
 
-abbrev pub convergedKind : ℕ
-convergedKind = 4
+abbrev pub converged_kind : ℕ
+converged_kind = 4
 
-abbrev pub installKind : ℕ
-installKind = 5
+abbrev pub install_kind : ℕ
+install_kind = 5
 
-abbrev pub stateKind : ℕ
-stateKind = 6
+abbrev pub state_kind : ℕ
+state_kind = 6
 
-abbrev pub getKind : ℕ
-getKind = 7
+abbrev pub get_kind : ℕ
+get_kind = 7
 
-abbrev pub putKind : ℕ
-putKind = 8
+abbrev pub put_kind : ℕ
+put_kind = 8
 
-abbrev pub viewReplyKind : ℕ
-viewReplyKind = 9
+abbrev pub view_reply_kind : ℕ
+view_reply_kind = 9
 
-abbrev pub pairReplyKind : ℕ
-pairReplyKind = 10
+abbrev pub pair_reply_kind : ℕ
+pair_reply_kind = 10
 
-abbrev pub ackKind : ℕ
-ackKind = 11
+abbrev pub ack_kind : ℕ
+ack_kind = 11
 
 -- ---- "One lent buffer of exactly 65,536 bytes": 8 relays, 4 desks, 256 messages, zeros
 
-abbrev pub worldRelays : ℕ
-worldRelays = 0
+abbrev pub world_relays : ℕ
+world_relays = 0
 
-abbrev pub worldDesks : ℕ
-worldDesks = worldRelays + relayCount * relayWidth
+abbrev pub world_desks : ℕ
+world_desks = world_relays + relay_count * relay_width
 
-abbrev pub worldPlaces : ℕ
-worldPlaces = worldDesks + deskCount * deskWidth
+abbrev pub world_places : ℕ
+world_places = world_desks + desk_count * desk_width
 
-abbrev pub worldZeros : ℕ
-worldZeros = worldPlaces + placeCount * messageWidth
+abbrev pub world_zeros : ℕ
+world_zeros = world_places + place_count * message_width
 
-abbrev pub worldWidth : ℕ
-worldWidth = 65536
+abbrev pub world_width : ℕ
+world_width = 65536
 
-abbrev pub worldRest : ℕ
-worldRest = worldWidth - worldZeros
+abbrev pub world_rest : ℕ
+world_rest = world_width - world_zeros
 
 -- ---- where the rows of a world begin: of the relay s, its generators and transfers, the i-th of each; of the desk n; of the place p
 
-abbrev pub relayBegin : ℕ → ℕ
-relayBegin s = s * relayWidth
+abbrev pub relay_begin : ℕ → ℕ
+relay_begin s = s * relay_width
 
-abbrev pub generatorsBegin : ℕ → ℕ
-generatorsBegin s = relayBegin s + relayGenerators
+abbrev pub generators_begin : ℕ → ℕ
+generators_begin s = relay_begin s + relay_generators
 
-abbrev pub transfersBegin : ℕ → ℕ
-transfersBegin s = relayBegin s + relayTransfers
+abbrev pub transfers_begin : ℕ → ℕ
+transfers_begin s = relay_begin s + relay_transfers
 
-abbrev pub generatorBegin : ℕ → ℕ → ℕ
-generatorBegin s i = generatorsBegin s + i * generatorWidth
+abbrev pub generator_begin : ℕ → ℕ → ℕ
+generator_begin s i = generators_begin s + i * generator_width
 
-abbrev pub transferBegin : ℕ → ℕ → ℕ
-transferBegin s i = transfersBegin s + i * transferWidth
+abbrev pub transfer_begin : ℕ → ℕ → ℕ
+transfer_begin s i = transfers_begin s + i * transfer_width
 
-abbrev pub deskBegin : ℕ → ℕ
-deskBegin n = worldDesks + n * deskWidth
+abbrev pub desk_begin : ℕ → ℕ
+desk_begin n = world_desks + n * desk_width
 
-abbrev pub placeBegin : ℕ → ℕ
-placeBegin p = worldPlaces + p * messageWidth
+abbrev pub place_begin : ℕ → ℕ
+place_begin p = world_places + p * message_width

@@ -4,9 +4,9 @@ use Rattle.rules.specs.Sets.{if◌then◌else◌}
 use Rattle.rules.specs.Messages.{Refusal, bad-world, bad-step, number}
 use Rattle.rules.specs.State.{start}
 use Rattle.rules.specs.declared.Step.{Step}
-use Rattle.rules.specs.Steps.{Report, noReport, Outcome, refusal, done, stepped}
-use Rattle.layout.specs.Layout.{worldWidth}
-use Rattle.layout.specs.Image.{image, worldAt, goodBytes}
+use Rattle.rules.specs.Steps.{Report, no_report, Outcome, refusal, done, stepped}
+use Rattle.layout.specs.Layout.{world_width}
+use Rattle.layout.specs.Image.{image, world_at, good_bytes}
 
 -- the answer's number, what is reported, and the buffer
 pub record Lent : Type 0 where
@@ -16,19 +16,19 @@ pub record Lent : Type 0 where
 
 -- "All but 0 report event 0 with zero fields and change nothing."
 abbrev pub kept : Refusal → List ℕ → Lent
-kept x b = record { answer = number x; report = noReport; buffer = b }
+kept x b = record { answer = number x; report = no_report; buffer = b }
 
 abbrev pub left : List ℕ → Outcome → Lent
 left b (refusal x) = kept x b
 left b (done w e sent delivered dropped) = record { answer = 0; report = e; buffer = image w }
 
 -- BAD WORLD: "world not good"
-unfoldable pub lentStep : List ℕ → Step → Lent
-lentStep b k = if goodBytes b then left b (stepped (worldAt b) k) else kept bad-world b
+unfoldable pub lent_step : List ℕ → Step → Lent
+lent_step b k = if good_bytes b then left b (stepped (world_at b) k) else kept bad-world b
 
 -- BAD WORLD: "at a start, wrong length"; BAD STEP: "start mask 0". A mask above 255 is no mask of relays either.
-unfoldable pub lentStart : List ℕ → ℕ → Lent
-lentStart b mask =
-    if eqb (length b) worldWidth
-    then (if eqb mask 0 then kept bad-step b else if leb 256 mask then kept bad-step b else record { answer = 0; report = noReport; buffer = image (start mask) })
+unfoldable pub lent_start : List ℕ → ℕ → Lent
+lent_start b mask =
+    if eqb (length b) world_width
+    then (if eqb mask 0 then kept bad-step b else if leb 256 mask then kept bad-step b else record { answer = 0; report = no_report; buffer = image (start mask) })
     else kept bad-world b

@@ -1,24 +1,24 @@
 -- A rule at a relay sees its head, one generator and one transfer. What the rule does to that part is done to the whole relay. Assumes nothing.
 use Rattle.std.specs.Prelude.{List, [], ◌∷◌, ℕ, eqb}
 use Rattle.rules.specs.Sets.{if◌then◌else◌, inside, those}
-use Rattle.rules.specs.Messages.{Body, request, view, proposal, converged, install, state, get, put, viewReply, pairReply, ack, Answer, refused, does}
+use Rattle.rules.specs.Messages.{Body, request, view, proposal, converged, install, state, get, put, view_reply, pair_reply, ack, Answer, refused, does}
 use Rattle.rules.specs.State.{Generator, Transfer, Relay}
-use Rattle.rules.specs.Generators.{putGenerator}
-use Rattle.rules.specs.Relays.{isFor, putTransfer}
+use Rattle.rules.specs.Generators.{put_generator}
+use Rattle.rules.specs.Relays.{is_for, put_transfer}
 
 -- which generator, and which transfer, a message is about; 0 is no view of a generator
-abbrev pub generatorOfBody : Body → ℕ
-generatorOfBody (request u c) = 0
-generatorOfBody (view v) = 0
-generatorOfBody (proposal v q) = v
-generatorOfBody (converged v q) = v
-generatorOfBody (install o w q) = w
-generatorOfBody (state o w p u) = w
-generatorOfBody (get try c) = 0
-generatorOfBody (put try c p) = 0
-generatorOfBody (viewReply try v) = 0
-generatorOfBody (pairReply try p) = 0
-generatorOfBody (ack try) = 0
+abbrev pub generator_of_body : Body → ℕ
+generator_of_body (request u c) = 0
+generator_of_body (view v) = 0
+generator_of_body (proposal v q) = v
+generator_of_body (converged v q) = v
+generator_of_body (install o w q) = w
+generator_of_body (state o w p u) = w
+generator_of_body (get try c) = 0
+generator_of_body (put try c p) = 0
+generator_of_body (view_reply try v) = 0
+generator_of_body (pair_reply try p) = 0
+generator_of_body (ack try) = 0
 
 pub record Move : Type 0 where
   pub old : ℕ
@@ -27,22 +27,22 @@ pub record Move : Type 0 where
 abbrev pub move : ℕ → ℕ → Move
 move o w = record { old = o; new = w }
 
-abbrev pub moveOfBody : Body → Move
-moveOfBody (request u c) = move 0 0
-moveOfBody (view v) = move 0 0
-moveOfBody (proposal v q) = move 0 0
-moveOfBody (converged v q) = move 0 0
-moveOfBody (install o w q) = move o w
-moveOfBody (state o w p u) = move o w
-moveOfBody (get try c) = move 0 0
-moveOfBody (put try c p) = move 0 0
-moveOfBody (viewReply try v) = move 0 0
-moveOfBody (pairReply try p) = move 0 0
-moveOfBody (ack try) = move 0 0
+abbrev pub move_of_body : Body → Move
+move_of_body (request u c) = move 0 0
+move_of_body (view v) = move 0 0
+move_of_body (proposal v q) = move 0 0
+move_of_body (converged v q) = move 0 0
+move_of_body (install o w q) = move o w
+move_of_body (state o w p u) = move o w
+move_of_body (get try c) = move 0 0
+move_of_body (put try c p) = move 0 0
+move_of_body (view_reply try v) = move 0 0
+move_of_body (pair_reply try p) = move 0 0
+move_of_body (ack try) = move 0 0
 
 -- a relay with other generators and transfers
-abbrev pub withTables : Relay → List Generator → List Transfer → Relay
-withTables r gs ts =
+abbrev pub with_tables : Relay → List Generator → List Transfer → Relay
+with_tables r gs ts =
     record {
       alive = r.alive;
       view = r.view;
@@ -57,7 +57,7 @@ withTables r gs ts =
 
 -- the part of r that shows the generator for v and the transfer from o to w
 unfoldable pub narrow : Relay → ℕ → Move → Relay
-narrow r v m = withTables r (those (λ g. eqb g.view v) r.generators) (those (isFor m.old m.new) r.transfers)
+narrow r v m = with_tables r (those (λ g. eqb g.view v) r.generators) (those (is_for m.old m.new) r.transfers)
 
 -- what a part shows is put back into the whole; it shows at most one
 abbrev pub put_back : {A : Type 0} → (A → List A → List A) → List A → List A → List A
@@ -67,9 +67,9 @@ put_back into (x ∷ more) xs = into x xs
 -- the whole relay r after a rule made n of its part: an entry, and nothing else, changes the view, and frees transfers
 unfoldable pub widened : Relay → Relay → Relay
 widened r n =
-    withTables n (put_back putGenerator n.generators r.generators)
+    with_tables n (put_back put_generator n.generators r.generators)
     (if eqb n.view r.view
-    then put_back putTransfer n.transfers r.transfers
+    then put_back put_transfer n.transfers r.transfers
     else those (λ u. inside n.view u.new) r.transfers)
 
 abbrev pub widens : Relay → Answer Relay → Answer Relay

@@ -9,26 +9,26 @@ use lib.ListN.{length, get_or, set, take, drop}
 use Rattle.rules.specs.Messages as rules
 use Rattle.state.specs.declared.Sending.{Sending}
 use Rattle.state.specs.declared.Sendings.{Sendings}
-use Rattle.state.specs.Meaning.{sendingOf, sendingsOf}
-use Rattle.state.specs.Plans.{noSending, most, padded, bounded}
-use Rattle.messages.specs.Made.{toNobody, allSent}
+use Rattle.state.specs.Meaning.{sending_of, sendings_of}
+use Rattle.state.specs.Plans.{no_sending, most, padded, bounded}
+use Rattle.messages.specs.Made.{to_nobody, all_sent}
 use Rattle.messages.proofs.Made.{nothing-sent}
 
 -- ---- lists with blanks after them
 
 module _ {A : Type 0} (d : A) where
   -- what has room in n has room in m
-  padded-again : (n m : ℕ) (xs : List A) → n ≤ m → padded n d (padded m d xs) ≡ padded n d xs
+  padded_again : (n m : ℕ) (xs : List A) → n ≤ m → padded n d (padded m d xs) ≡ padded n d xs
   unfolding padded
-  padded-again zero m xs h = refl
-  padded-again (suc n) zero xs h = absurd (omega arith)
-  padded-again (suc n) (suc m) [] h = ap (λ (l : List A). d ∷ l) (padded-again n m [] (le_of_suc-le-suc h))
-  padded-again (suc n) (suc m) (x ∷ xs) h = ap (λ (l : List A). x ∷ l) (padded-again n m xs (le_of_suc-le-suc h))
+  padded_again zero m xs h = refl
+  padded_again (suc n) zero xs h = absurd (omega arith)
+  padded_again (suc n) (suc m) [] h = ap (λ (l : List A). d ∷ l) (padded_again n m [] (le_of_suc-le-suc h))
+  padded_again (suc n) (suc m) (x ∷ xs) h = ap (λ (l : List A). x ∷ l) (padded_again n m xs (le_of_suc-le-suc h))
 
-  padded-front : (n : ℕ) (x : A) (xs : List A) → padded n d (x ∷ padded n d xs) ≡ padded n d (x ∷ xs)
+  padded_front : (n : ℕ) (x : A) (xs : List A) → padded n d (x ∷ padded n d xs) ≡ padded n d (x ∷ xs)
   unfolding padded
-  padded-front zero x xs = refl
-  padded-front (suc n) x xs = ap (λ (l : List A). x ∷ l) (padded-again n (suc n) xs (omega arith))
+  padded_front zero x xs = refl
+  padded_front (suc n) x xs = ap (λ (l : List A). x ∷ l) (padded_again n (suc n) xs (omega arith))
 
   -- of a list that is not shorter, the first n
   pub padded-take : (n : ℕ) (xs : List A) → n ≤ length xs → padded n d xs ≡ take n xs
@@ -46,28 +46,28 @@ module _ {A B : Type 0} (f : A → B) (d : A) where
 
 -- ---- what they mean
 
-pub all-means : {r : Sendings} (xs : List Sending) → r ≡ allSent xs → sendingsOf r ≡ bounded (map sendingOf xs)
-unfolding sendingsOf allSent
-all-means xs e = rw (e, padded-map sendingOf toNobody most xs, nothing-sent {r = toNobody} refl)
+pub all_means : {r : Sendings} (xs : List Sending) → r ≡ all_sent xs → sendings_of r ≡ bounded (map sending_of xs)
+unfolding sendings_of all_sent
+all_means xs e = rw (e, padded-map sending_of to_nobody most xs, nothing-sent {r = to_nobody} refl)
 
-pub before-means : {r : Sendings} (s : Sending) (x : Sendings) (ss : List rules.Sending) → r ≡ allSent (s ∷ x.of) → sendingsOf x ≡ bounded ss
-    → sendingsOf r ≡ bounded (sendingOf s ∷ ss)
-unfolding sendingsOf
-before-means s x ss e f = all-means (s ∷ x.of) e ∙ rw f (padded-front noSending most (sendingOf s) ss)
+pub before_means : {r : Sendings} (s : Sending) (x : Sendings) (ss : List rules.Sending) → r ≡ all_sent (s ∷ x.of) → sendings_of x ≡ bounded ss
+    → sendings_of r ≡ bounded (sending_of s ∷ ss)
+unfolding sendings_of
+before_means s x ss e f = all_means (s ∷ x.of) e ∙ rw f (padded_front no_sending most (sending_of s) ss)
 
 -- ---- one list written over another, from the front
 
 module _ {A : Type 0} (d : A) where
-  over-more : (l m : List A) (i : ℕ) → i < length l → i < length m → set (take i l ++ drop i m) i (get_or l i d) ≡ take (suc i) l ++ drop (suc i) m
-  over-more [] m i h k = absurd (omega arith)
-  over-more (x ∷ l) [] i h k = absurd (omega arith)
-  over-more (x ∷ l) (y ∷ m) zero h k = refl
-  over-more (x ∷ l) (y ∷ m) (suc i) h k = ap (λ (t : List A). x ∷ t) (over-more l m i (le_of_suc-le-suc h) (le_of_suc-le-suc k))
+  over_more : (l m : List A) (i : ℕ) → i < length l → i < length m → set (take i l ++ drop i m) i (get_or l i d) ≡ take (suc i) l ++ drop (suc i) m
+  over_more [] m i h k = absurd (omega arith)
+  over_more (x ∷ l) [] i h k = absurd (omega arith)
+  over_more (x ∷ l) (y ∷ m) zero h k = refl
+  over_more (x ∷ l) (y ∷ m) (suc i) h k = ap (λ (t : List A). x ∷ t) (over_more l m i (le_of_suc-le-suc h) (le_of_suc-le-suc k))
 
   -- x, and then the list l
-  pub shifted-more : (x : A) (l m t : List A) (i : ℕ) → 1 ≤ i → i ≤ length l → i < length m → t ≡ take i (x ∷ l) ++ drop i m
+  pub shifted_more : (x : A) (l m t : List A) (i : ℕ) → 1 ≤ i → i ≤ length l → i < length m → t ≡ take i (x ∷ l) ++ drop i m
       → set t i (get_or l (i - 1) d) ≡ take (i + 1) (x ∷ l) ++ drop (i + 1) m
-  shifted-more x l m t zero p h k e = absurd (omega arith)
-  shifted-more x l m t (suc i) p h k e =
+  shifted_more x l m t zero p h k e = absurd (omega arith)
+  shifted_more x l m t (suc i) p h k e =
       let j : suc i - 1 ≡ i = omega arith in
-      rw (e, j, add-one) (over-more (x ∷ l) m (suc i) (suc-le-suc h) k)
+      rw (e, j, add-one) (over_more (x ∷ l) m (suc i) (suc-le-suc h) k)

@@ -3,43 +3,43 @@ use Rattle.std.specs.Prelude.{List, [], ℕ, leb, ltb}
 use Rattle.views.specs.Row.{row_of}
 use Rattle.views.specs.declared.Sequence.{Sequence}
 use Rattle.rules.specs.Sets.{if◌then◌else◌, ◌&&◌, only}
-use Rattle.rules.specs.Stamps.{zeroPair}
+use Rattle.rules.specs.Stamps.{zero_pair}
 use Rattle.rules.specs.Messages as rules
-use Rattle.layout.specs.Layout.{proposalKind, installKind}
-use Rattle.layout.specs.Image.{bodyRow}
+use Rattle.layout.specs.Layout.{proposal_kind, install_kind}
+use Rattle.layout.specs.Image.{body_row}
 use Rattle.state.specs.declared.Body.{Body}
 use Rattle.state.specs.declared.Sending.{Sending}
 use Rattle.state.specs.declared.Sendings.{Sendings}
 use Rattle.state.specs.Plans.{most, padded}
 
 -- of this kind, and it says nothing yet
-unfoldable pub blankOf : ℕ → Body
-blankOf kind = record { kind = kind; first = 0; second = 0; tries = 0; sequence = row_of []; pair = zeroPair; updates = 0 }
+unfoldable pub blank_of : ℕ → Body
+blank_of kind = record { kind = kind; first = 0; second = 0; tries = 0; sequence = row_of []; pair = zero_pair; updates = 0 }
 
 -- this row of views where the body says a sequence (a proposal, a convergence, an install), the empty row where it says none
-abbrev pub saidBy : rules.Body → Sequence → Sequence
-saidBy x q = let kind = (bodyRow 0 0 x).kind in if leb proposalKind kind && leb kind installKind then q else row_of []
+abbrev pub said_by : rules.Body → Sequence → Sequence
+said_by x q = let kind = (body_row 0 0 x).kind in if leb proposal_kind kind && leb kind install_kind then q else row_of []
 
 -- the code's body that says this: every field as in its row of the image, the sequence as it is given
-unfoldable pub madeWith : Sequence → rules.Body → Body
-madeWith q x =
-    let m = bodyRow 0 0 x in
-    record { kind = m.kind; first = m.first; second = m.second; tries = m.tries; sequence = saidBy x q; pair = m.pair; updates = m.updates }
+unfoldable pub made_with : Sequence → rules.Body → Body
+made_with q x =
+    let m = body_row 0 0 x in
+    record { kind = m.kind; first = m.first; second = m.second; tries = m.tries; sequence = said_by x q; pair = m.pair; updates = m.updates }
 
 -- one that says no sequence
 abbrev pub made : rules.Body → Body
-made x = madeWith (row_of []) x
+made x = made_with (row_of []) x
 
-abbrev pub sendTo : ℕ → Body → Sending
-sendTo receivers body = record { body = body; receivers = receivers }
+abbrev pub send_to : ℕ → Body → Sending
+send_to receivers body = record { body = body; receivers = receivers }
 
 -- nothing is sent
-abbrev pub toNobody : Sending
-toNobody = sendTo 0 (made (rules.ack 0))
+abbrev pub to_nobody : Sending
+to_nobody = send_to 0 (made (rules.ack 0))
 
 -- these, in their order; the rest of the room is sent to nobody
-unfoldable pub allSent : List Sending → Sendings
-allSent ss = record { of = padded most toNobody ss }
+unfoldable pub all_sent : List Sending → Sendings
+all_sent ss = record { of = padded most to_nobody ss }
 
 -- a set of receivers has the numbers 0 to 15: of any other, nobody
 abbrev pub one_of : ℕ → ℕ

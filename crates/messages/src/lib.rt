@@ -1,18 +1,18 @@
 // The messages' bodies, and to whom they are sent. Document 01, "Steps", "Delivery at a relay", "Delivery at a desk".
 ghost use Rattle.std.specs.Prelude.{◌≡◌, [], ◌∷◌};
-ghost use Rattle.views.specs.Row.{viewsOf};
+ghost use Rattle.views.specs.Row.{views_of};
 ghost use Rattle.rules.specs.Sets.{members, joined};
 ghost use Rattle.rules.specs.Messages as rules;
-ghost use Rattle.layout.specs.Image.{tryIn};
-ghost use Rattle.state.specs.Meaning.{rowOfBody, body_of};
-ghost use Rattle.messages.specs.Made.{blankOf, madeWith, made, sendTo, toNobody, allSent, one_of};
+ghost use Rattle.layout.specs.Image.{try_in};
+ghost use Rattle.state.specs.Meaning.{row_of_body, body_of};
+ghost use Rattle.messages.specs.Made.{blank_of, made_with, made, send_to, to_nobody, all_sent, one_of};
 
 use stamps::Pair;
 use state::{Body, MOST, Sending, Sendings};
 use views::Sequence;
 
 fn blank(kind: u8) -> Body
-    ensures { result ≡ blankOf kind }
+    ensures { result ≡ blank_of kind }
 {
     Body {
         kind: kind,
@@ -43,7 +43,7 @@ pub fn view(v: u16) -> Body
 }
 
 pub fn proposal(v: u16, q: Sequence) -> Body
-    ensures { result ≡ madeWith q (rules.proposal v (viewsOf q)) }
+    ensures { result ≡ made_with q (rules.proposal v (views_of q)) }
 {
     let mut b = blank(layout::PROPOSAL);
     b.first = v;
@@ -52,7 +52,7 @@ pub fn proposal(v: u16, q: Sequence) -> Body
 }
 
 pub fn converged(v: u16, q: Sequence) -> Body
-    ensures { result ≡ madeWith q (rules.converged v (viewsOf q)) }
+    ensures { result ≡ made_with q (rules.converged v (views_of q)) }
 {
     let mut b = blank(layout::CONVERGED);
     b.first = v;
@@ -61,7 +61,7 @@ pub fn converged(v: u16, q: Sequence) -> Body
 }
 
 pub fn install(o: u16, w: u16, q: Sequence) -> Body
-    ensures { result ≡ madeWith q (rules.install o w (viewsOf q)) }
+    ensures { result ≡ made_with q (rules.install o w (views_of q)) }
 {
     let mut b = blank(layout::INSTALL);
     b.first = o;
@@ -101,7 +101,7 @@ pub fn put(tries: u16, c: u16, p: Pair) -> Body
 }
 
 pub fn view_reply(tries: u16, v: u16) -> Body
-    ensures { result ≡ made (rules.viewReply tries v) }
+    ensures { result ≡ made (rules.view_reply tries v) }
 {
     let mut b = blank(layout::VIEW_REPLY);
     b.tries = tries;
@@ -110,7 +110,7 @@ pub fn view_reply(tries: u16, v: u16) -> Body
 }
 
 pub fn pair_reply(tries: u16, p: Pair) -> Body
-    ensures { result ≡ made (rules.pairReply tries p) }
+    ensures { result ≡ made (rules.pair_reply tries p) }
 {
     let mut b = blank(layout::PAIR_REPLY);
     b.tries = tries;
@@ -150,7 +150,7 @@ fn says(
 
 // The same body as its own kind has it: "unused room is zero". A number that is no kind is an acknowledgement's.
 pub fn plain(b: Body) -> Body
-    ensures { result ≡ madeWith b.sequence (body_of b) }
+    ensures { result ≡ made_with b.sequence (body_of b) }
 {
     let kind = b.kind;
     let q = b.sequence;
@@ -180,7 +180,7 @@ pub fn plain(b: Body) -> Body
 
 // The kinds that have a try.
 fn plain_try(b: Body) -> Body
-    ensures { result ≡ madeWith b.sequence (tryIn (rowOfBody b)) }
+    ensures { result ≡ made_with b.sequence (try_in (row_of_body b)) }
 {
     let kind = b.kind;
     let p = b.pair;
@@ -202,7 +202,7 @@ fn plain_try(b: Body) -> Body
 }
 
 pub fn no_sending() -> Sending
-    ensures { result ≡ toNobody }
+    ensures { result ≡ to_nobody }
 {
     Sending {
         body: ack(0),
@@ -211,7 +211,7 @@ pub fn no_sending() -> Sending
 }
 
 pub fn to_members(v: u16, body: Body) -> Sending
-    ensures { result ≡ sendTo (members v) body }
+    ensures { result ≡ send_to (members v) body }
 {
     Sending {
         body: body,
@@ -220,7 +220,7 @@ pub fn to_members(v: u16, body: Body) -> Sending
 }
 
 pub fn to_both(v: u16, w: u16, body: Body) -> Sending
-    ensures { result ≡ sendTo (joined (members v) (members w)) body }
+    ensures { result ≡ send_to (joined (members v) (members w)) body }
 {
     let both = views::join(views::members(v) as u16, views::members(w) as u16);
     Sending {
@@ -230,7 +230,7 @@ pub fn to_both(v: u16, w: u16, body: Body) -> Sending
 }
 
 pub fn to_one(s: u8, body: Body) -> Sending
-    ensures { result ≡ sendTo (one_of s) body }
+    ensures { result ≡ send_to (one_of s) body }
 {
     if 15 < s {
         return Sending {
@@ -247,7 +247,7 @@ pub fn to_one(s: u8, body: Body) -> Sending
 // ---- what a rule sends
 
 pub fn nothing_sent() -> Sendings
-    ensures { result ≡ allSent [] }
+    ensures { result ≡ all_sent [] }
 {
     let nobody = no_sending();
     Sendings { of: [nobody; MOST] }
@@ -255,7 +255,7 @@ pub fn nothing_sent() -> Sendings
 
 // One thing first, and then the rest, as far as there is room.
 pub fn sent_before(s: Sending, rest: Sendings) -> Sendings
-    ensures { result ≡ allSent (s ∷ rest.of) }
+    ensures { result ≡ all_sent (s ∷ rest.of) }
 {
     let mut of = [s; MOST];
     for i in 1..MOST {
@@ -266,7 +266,7 @@ pub fn sent_before(s: Sending, rest: Sendings) -> Sendings
 }
 
 pub fn one_sent(s: Sending) -> Sendings
-    ensures { result ≡ allSent (s ∷ []) }
+    ensures { result ≡ all_sent (s ∷ []) }
 {
     sent_before(s, nothing_sent())
 }

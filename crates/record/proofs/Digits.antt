@@ -18,13 +18,13 @@ enough (suc k) n h =
     let below : n < 10 ^ suc k * 10 = rw (pow-suc 10 (suc k)) at h in
     rw (enough k (n / 10) (omega arith))
 
-pub decimal-one : (n : ℕ) → n < 10 → decimal n ≡ (48 + n) ∷ []
+pub decimal_one : (n : ℕ) → n < 10 → decimal n ≡ (48 + n) ∷ []
 unfolding digits
-decimal-one n h = rw (lt-ltb n 10 h)
+decimal_one n h = rw (lt-ltb n 10 h)
 
-pub decimal-more : (n : ℕ) → 10 ≤ n → n < 4294967296 → decimal n ≡ decimal (n / 10) ++ ((48 + n % 10) ∷ [])
+pub decimal_more : (n : ℕ) → 10 ≤ n → n < 4294967296 → decimal n ≡ decimal (n / 10) ++ ((48 + n % 10) ∷ [])
 unfolding digits
-decimal-more n h small = rw (le-ltb n 10 h, enough 8 (n / 10) (omega arith))
+decimal_more n h small = rw (le-ltb n 10 h, enough 8 (n / 10) (omega arith))
 
 -- ---- what of a line comes after its first number, and from the i-th on
 
@@ -32,28 +32,28 @@ unfoldable pub tail : List ℕ → List ℕ
 tail [] = 10 ∷ []
 tail (n ∷ ns) = 32 ∷ (decimal n ++ tail ns)
 
-line-tail : (n : ℕ) (ns : List ℕ) → line (n ∷ ns) ≡ decimal n ++ tail ns
+line_tail : (n : ℕ) (ns : List ℕ) → line (n ∷ ns) ≡ decimal n ++ tail ns
 unfolding line tail
-line-tail n [] = refl
-line-tail n (m ∷ ns) = ap (λ (r : List ℕ). decimal n ++ (32 ∷ r)) (line-tail m ns)
+line_tail n [] = refl
+line_tail n (m ∷ ns) = ap (λ (r : List ℕ). decimal n ++ (32 ∷ r)) (line_tail m ns)
 
-unfoldable pub tailFrom : ℕ → List ℕ → List ℕ
-tailFrom i ns = tail (drop i ns)
+unfoldable pub tail_from : ℕ → List ℕ → List ℕ
+tail_from i ns = tail (drop i ns)
 
 pub line-none : (ns : List ℕ) → length ns ≡ 0 → line ns ≡ 10 ∷ []
 unfolding line
 line-none [] h = refl
 line-none (n ∷ ns) h = absurd (omega arith)
 
-pub line_first : (ns : List ℕ) → (length ns ≡ 0 → ⊥) → decimal (get_or ns 0 0) ++ tailFrom 1 ns ≡ line ns
-unfolding tailFrom
+pub line_first : (ns : List ℕ) → (length ns ≡ 0 → ⊥) → decimal (get_or ns 0 0) ++ tail_from 1 ns ≡ line ns
+unfolding tail_from
 line_first [] h = absurd (h refl)
-line_first (n ∷ ns) h = sym (line-tail n ns)
+line_first (n ∷ ns) h = sym (line_tail n ns)
 
-pub tail-next : (ns : List ℕ) (i : ℕ) → i < length ns → tailFrom i ns ≡ (32 ∷ []) ++ (decimal (get_or ns i 0) ++ tailFrom (i + 1) ns)
-unfolding tailFrom tail
-tail-next ns i h = rw (drop-cons ns i 0 h, add-one i)
+pub tail_next : (ns : List ℕ) (i : ℕ) → i < length ns → tail_from i ns ≡ (32 ∷ []) ++ (decimal (get_or ns i 0) ++ tail_from (i + 1) ns)
+unfolding tail_from tail
+tail_next ns i h = rw (drop-cons ns i 0 h, add-one i)
 
-pub tail-end : (ns : List ℕ) (i : ℕ) → length ns ≤ i → tailFrom i ns ≡ (10 ∷ []) ++ []
-unfolding tailFrom tail
-tail-end ns i h = rw (drop_of_length-le ns h)
+pub tail_end : (ns : List ℕ) (i : ℕ) → length ns ≤ i → tail_from i ns ≡ (10 ∷ []) ++ []
+unfolding tail_from tail
+tail_end ns i h = rw (drop_of_length-le ns h)

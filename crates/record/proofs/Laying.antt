@@ -40,15 +40,15 @@ laid_cons y out at [] = refl
 laid_cons y out at (x ∷ b) = laid_cons y (set out at x) (suc at) b
 
 -- from the front: as much of b as fits, and what b does not reach
-pub laid-front : (out b : List ℕ) → laid out 0 b ≡ take (length out) b ++ drop (length b) out
+pub laid_front : (out b : List ℕ) → laid out 0 b ≡ take (length out) b ++ drop (length b) out
 unfolding laid
-laid-front [] b = laid-past [] 0 b (omega arith) ∙ sym (drop-nil (length b))
-laid-front (y ∷ out) [] = refl
-laid-front (y ∷ out) (x ∷ b) = laid_cons x out 0 b ∙ ap (λ (l : List ℕ). x ∷ l) (laid-front out b)
+laid_front [] b = laid-past [] 0 b (omega arith) ∙ sym (drop-nil (length b))
+laid_front (y ∷ out) [] = refl
+laid_front (y ∷ out) (x ∷ b) = laid_cons x out 0 b ∙ ap (λ (l : List ℕ). x ∷ l) (laid_front out b)
 
 -- what fits is there whole
 pub laid-whole : (out b : List ℕ) → length b ≤ length out → laid out 0 b ≡ b ++ drop (length b) out
-laid-whole out b h = laid-front out b ∙ ap (λ (l : List ℕ). l ++ drop (length b) out) (take_all (length out) b h)
+laid-whole out b h = laid_front out b ∙ ap (λ (l : List ℕ). l ++ drop (length b) out) (take_all (length out) b h)
 
 -- one byte is a piece of one byte
 pub laid-byte : (out : List ℕ) (at x : ℕ) → placed out at (x ∷ []) ≡ laid out at (x ∷ [])
@@ -62,8 +62,8 @@ pub record Printed (l₀ : List ℕ) (o : ℕ) (b l : List ℕ) (p : ℕ) : Type
   pub is : l ≡ laid l₀ o b
 
 module _ {l₀ : List ℕ} {o : ℕ} {a l : List ℕ} {p : ℕ} (b t : List ℕ) {q : ℕ} where
-  pub printed-then : Printed l₀ o a l p → length l₀ ≤ far → (q ≡ past p b) × (t ≡ laid l p b) → Printed l₀ o (a ++ b) t q
-  printed-then h small e =
+  pub printed_then : Printed l₀ o a l p → length l₀ ≤ far → (q ≡ past p b) × (t ≡ laid l p b) → Printed l₀ o (a ++ b) t q
+  printed_then h small e =
       record { at = simp length-append (omega (arith, h.at, e.0)); is = e.1 ∙ go (leb (o + length a) far) refl }
     where
       go : (t : Bool) → leb (o + length a) far ≡ t → laid l p b ≡ laid l₀ o (a ++ b)
@@ -80,8 +80,8 @@ module _ {l₀ : List ℕ} {o : ℕ} {a l : List ℕ} {p : ℕ} (b t : List ℕ)
 pub printed-first : {l₀ : List ℕ} {o : ℕ} {l : List ℕ} {p : ℕ} (b : List ℕ) → (p ≡ past o b) × (l ≡ laid l₀ o b) → Printed l₀ o b l p
 printed-first b e = record { at = e.0; is = e.1 }
 
-pub printed-as : {l₀ : List ℕ} {o : ℕ} {a l : List ℕ} {p : ℕ} (b : List ℕ) → a ≡ b → Printed l₀ o a l p → (p ≡ past o b) × (l ≡ laid l₀ o b)
-printed-as b e h = rw (← e) (h.at, h.is)
+pub printed_as : {l₀ : List ℕ} {o : ℕ} {a l : List ℕ} {p : ℕ} (b : List ℕ) → a ≡ b → Printed l₀ o a l p → (p ≡ past o b) × (l ≡ laid l₀ o b)
+printed_as b e h = rw (← e) (h.at, h.is)
 
 -- ---- a loop: what is left makes up the whole
 
@@ -92,23 +92,23 @@ pub record Printing (whole l₀ : List ℕ) (o : ℕ) (l : List ℕ) (p : ℕ) (
   pub so : Printed l₀ o sofar l p
   pub whole_is : sofar ++ rest ≡ whole
 
-pub printing-none : {whole l : List ℕ} {o : ℕ} → o ≤ far → length l ≤ far → Printing whole l o l o whole
+pub printing_none : {whole l : List ℕ} {o : ℕ} → o ≤ far → length l ≤ far → Printing whole l o l o whole
 unfolding laid
-printing-none h small = record { small = small; long = refl; sofar = []; so = record { at = omega arith; is = refl }; whole_is = refl }
+printing_none h small = record { small = small; long = refl; sofar = []; so = record { at = omega arith; is = refl }; whole_is = refl }
 
 module _ {whole l₀ : List ℕ} {o : ℕ} {l : List ℕ} {p : ℕ} {rest : List ℕ} (b t next : List ℕ) {q : ℕ} where
-  pub printing-more : Printing whole l₀ o l p rest → rest ≡ b ++ next → (q ≡ past p b) × (t ≡ laid l p b) → Printing whole l₀ o t q next
-  printing-more h e w =
+  pub printing_more : Printing whole l₀ o l p rest → rest ≡ b ++ next → (q ≡ past p b) × (t ≡ laid l p b) → Printing whole l₀ o t q next
+  printing_more h e w =
       record {
         small = h.small;
         long = ap length w.1 ∙ laid-length l p b ∙ h.long;
         sofar = h.sofar ++ b;
-        so = printed-then b t h.so h.small w;
+        so = printed_then b t h.so h.small w;
         whole_is = append_assoc h.sofar b next ∙ ap (λ (r : List ℕ). h.sofar ++ r) (sym e) ∙ h.whole_is;
       }
 
-pub printing-all : {whole l₀ : List ℕ} {o : ℕ} {l : List ℕ} {p : ℕ} {rest : List ℕ} → Printing whole l₀ o l p rest → rest ≡ [] → (p ≡ past o whole) × (l ≡ laid l₀ o whole)
-printing-all h e = printed-as _ (sym (append-nil h.sofar) ∙ ap (λ (r : List ℕ). h.sofar ++ r) (sym e) ∙ h.whole_is) h.so
+pub printing_all : {whole l₀ : List ℕ} {o : ℕ} {l : List ℕ} {p : ℕ} {rest : List ℕ} → Printing whole l₀ o l p rest → rest ≡ [] → (p ≡ past o whole) × (l ≡ laid l₀ o whole)
+printing_all h e = printed_as _ (sym (append-nil h.sofar) ∙ ap (λ (r : List ℕ). h.sofar ++ r) (sym e) ∙ h.whole_is) h.so
 
 -- the i-th byte of a word, and what is after it
 pub word_next : (word : List ℕ) (i : ℕ) → i < length word → drop i word ≡ (get_or word i 0 ∷ []) ++ drop (i + 1) word

@@ -1,7 +1,7 @@
 // The printed record, byte by byte into a lent buffer. What does not fit is not written, but counted: a position may pass the buffer's end.
 // Document 01, "Sheets and the printed record".
 ghost use Rattle.std.specs.Prelude.{◌≡◌, [], ◌∷◌};
-ghost use Rattle.rules.specs.Runs.{decimal, line, start_of, end_of, badOf};
+ghost use Rattle.rules.specs.Runs.{decimal, line, start_of, end_of, bad_of};
 ghost use Rattle.record.specs.Lines.{laid, past, step_of};
 
 // The largest position: no buffer reaches that far.
@@ -119,8 +119,8 @@ pub fn put_end(
 }
 
 pub fn put_bad(out: &mut [u8]) -> usize
-    ensures position { result ≡ past 0 badOf }
-    ensures bytes { out.new ≡ laid out.old 0 badOf }
+    ensures position { result ≡ past 0 bad_of }
+    ensures bytes { out.new ≡ laid out.old 0 bad_of }
 {
     let at = put_word(out, 0, b"bad ");
     let numbers = [rules::BAD_SHEET as u32];

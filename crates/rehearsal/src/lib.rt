@@ -1,16 +1,16 @@
 // A rehearsal: a sheet's run in the world's buffer, and its printed record, laid from the run's trace. Document 01, "Sheets and the printed record".
 ghost use Rattle.std.specs.Prelude.{◌≡◌, true, false, ◌+◌, ◌*◌, ◌≤◌, length, get_or};
 ghost use Rattle.rules.specs.State.{World, start};
-ghost use Rattle.rules.specs.Sending.{waitingIn};
-ghost use Rattle.rules.specs.WellFormed.{wellFormed};
-ghost use Rattle.rules.specs.Sheets.{badSheet};
-ghost use Rattle.rules.specs.Runs.{outcomes, lastWorld, printed, end_of};
-ghost use Rattle.layout.specs.Layout.{worldWidth};
+ghost use Rattle.rules.specs.Sending.{waiting_in};
+ghost use Rattle.rules.specs.WellFormed.{well_formed};
+ghost use Rattle.rules.specs.Sheets.{bad_sheet};
+ghost use Rattle.rules.specs.Runs.{outcomes, last_world, printed, end_of};
+ghost use Rattle.layout.specs.Layout.{world_width};
 ghost use Rattle.layout.specs.Image.{image};
-ghost use Rattle.sheet.specs.Reading.{stepsFrom};
+ghost use Rattle.sheet.specs.Reading.{steps_from};
 ghost use Rattle.record.specs.Lines.{laid, past};
-ghost use Rattle.world.specs.Tracing.{bad-sheet, traceRowWidth, traceRows};
-ghost use Rattle.rehearsal.specs.Playing.{Begins, Lined, AllLined, answerBy, laidBy, rehearseAnswer, worldLeft, recordLeft};
+ghost use Rattle.world.specs.Tracing.{bad-sheet, trace_row_width, trace_rows};
+ghost use Rattle.rehearsal.specs.Playing.{Begins, Lined, AllLined, answer_by, laid_by, rehearse_answer, world_left, record_left};
 
 use sheet::Found;
 use world::run::{
@@ -30,7 +30,7 @@ struct Tally {
 // "a line a step: number from 1, answer, event, who, stamp count, stamp desk": of the row at `row`. Its answer and the step's kind tell what the step
 // delivered and dropped.
 fn put_row(rows: &[u8], row: usize, kind: u8, out: &mut [u8], at: usize, number: u32) -> Tally
-    requires { row + traceRowWidth ≤ length rows.now }
+    requires { row + trace_row_width ≤ length rows.now }
     ensures { Lined rows.now row kind number at out.old out.new result }
 {
     let answer = rows::byte_at(rows, row + TRACE_ANSWER);
@@ -49,9 +49,9 @@ fn put_row(rows: &[u8], row: usize, kind: u8, out: &mut [u8], at: usize, number:
 
 // A line for each step of a sheet, whose trace is in `rows`.
 fn put_rows(sheet: &[u8], rows: &[u8], out: &mut [u8], at: usize) -> Tally
-    requires sheet_value { badSheet sheet.now ≡ false }
-    requires begins { Begins rows.now (traceRows (outcomes (start (get_or sheet.now 5 0)) (stepsFrom sheet.now 6))) }
-    ensures { AllLined (start (get_or sheet.now 5 0)) (stepsFrom sheet.now 6) at out.old out.new result }
+    requires sheet_value { bad_sheet sheet.now ≡ false }
+    requires begins { Begins rows.now (trace_rows (outcomes (start (get_or sheet.now 5 0)) (steps_from sheet.now 6))) }
+    ensures { AllLined (start (get_or sheet.now 5 0)) (steps_from sheet.now 6) at out.old out.new result }
 {
     let mut from = sheet::HEAD;
     let mut row = 0;
@@ -84,11 +84,11 @@ fn put_rows(sheet: &[u8], rows: &[u8], out: &mut [u8], at: usize) -> Tally
 // "The first three are counted from the accepted steps, waiting from the last world; sent is the sum of the others."
 fn put_totals(w: &[u8], out: &mut [u8], t: Tally) -> usize
     requires { (t.delivered ≤ 8000) × (t.dropped ≤ 8000) }
-    ensures position { (W : World) → wellFormed W ≡ true → w.now ≡ image W
-        → result ≡ past t.at (end_of (t.delivered + t.dropped + waitingIn W.places) t.delivered t.dropped (waitingIn W.places)) }
-    ensures bytes { (W : World) → wellFormed W ≡ true → w.now ≡ image W
+    ensures position { (W : World) → well_formed W ≡ true → w.now ≡ image W
+        → result ≡ past t.at (end_of (t.delivered + t.dropped + waiting_in W.places) t.delivered t.dropped (waiting_in W.places)) }
+    ensures bytes { (W : World) → well_formed W ≡ true → w.now ≡ image W
         → out.new
-        ≡ laid out.old t.at (end_of (t.delivered + t.dropped + waitingIn W.places) t.delivered t.dropped (waitingIn W.places)) }
+        ≡ laid out.old t.at (end_of (t.delivered + t.dropped + waiting_in W.places) t.delivered t.dropped (waiting_in W.places)) }
 {
     let waiting = world::waiting(w);
     record::put_end(
@@ -106,10 +106,10 @@ const ROWS: usize = 8000 * TRACE_ROW;
 
 // An accepted sheet.
 fn play(sheet: &[u8], mask: u8, w: &mut [u8], out: &mut [u8]) -> usize
-    requires { (length w.old ≡ worldWidth) × ((badSheet sheet.now ≡ false) × (mask ≡ get_or sheet.now 5 0)) }
-    ensures position { result ≡ past 0 (printed mask (stepsFrom sheet.now 6)) }
-    ensures bytes { out.new ≡ laid out.old 0 (printed mask (stepsFrom sheet.now 6)) }
-    ensures world { w.new ≡ image (lastWorld (start mask) (stepsFrom sheet.now 6)) }
+    requires { (length w.old ≡ world_width) × ((bad_sheet sheet.now ≡ false) × (mask ≡ get_or sheet.now 5 0)) }
+    ensures position { result ≡ past 0 (printed mask (steps_from sheet.now 6)) }
+    ensures bytes { out.new ≡ laid out.old 0 (printed mask (steps_from sheet.now 6)) }
+    ensures world { w.new ≡ image (last_world (start mask) (steps_from sheet.now 6)) }
 {
     let mut rows = [0u8; ROWS];
     world::run::trace(sheet, w, &mut rows);
@@ -138,8 +138,8 @@ const BAD: usize = 6;
 
 // "For BAD SHEET it prints `bad 9` only": whole, or not at all.
 fn refuse_sheet(out: &mut [u8]) -> Rehearsed
-    ensures answer { result ≡ answerBy out.old bad-sheet }
-    ensures bytes { out.new ≡ laidBy out.old bad-sheet }
+    ensures answer { result ≡ answer_by out.old bad-sheet }
+    ensures bytes { out.new ≡ laid_by out.old bad-sheet }
 {
     if out.len() < BAD {
         return Rehearsed {
@@ -156,9 +156,9 @@ fn refuse_sheet(out: &mut [u8]) -> Rehearsed
 
 // What `rehearse` prints for a sheet, and the last world. Whether there is room is decided before anything is done.
 pub fn rehearse(sheet: &[u8], world: &mut [u8], out: &mut [u8]) -> Rehearsed
-    ensures answer { result ≡ rehearseAnswer sheet.now world.old out.old }
-    ensures last { world.new ≡ worldLeft sheet.now world.old out.old }
-    ensures printed { out.new ≡ recordLeft sheet.now world.old out.old }
+    ensures answer { result ≡ rehearse_answer sheet.now world.old out.old }
+    ensures last { world.new ≡ world_left sheet.now world.old out.old }
+    ensures printed { out.new ≡ record_left sheet.now world.old out.old }
 {
     if world.len() != layout::WORLD_WIDTH {
         return Rehearsed {

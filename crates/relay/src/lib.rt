@@ -1,15 +1,15 @@
 // Document 01, "Delivery at a relay", and JOIN, LEAVE, TIMER: what a relay answers to each thing that is put to it.
 ghost use Rattle.std.specs.Prelude.{◌≡◌, true, ◌&&◌, [], ◌∷◌, ◌<◌, ltb};
 ghost use Rattle.views.specs.Choice.{if◌then◌else◌};
-ghost use Rattle.views.specs.Row.{viewsOf};
-ghost use Rattle.rules.specs.State.{noRelay, withTransfers};
-ghost use Rattle.rules.specs.Generators.{generatorFor, convergedHeard};
+ghost use Rattle.views.specs.Row.{views_of};
+ghost use Rattle.rules.specs.State.{no_relay, with_transfers};
+ghost use Rattle.rules.specs.Generators.{generator_for, converged_heard};
 ghost use Rattle.rules.specs.Generators as generators;
 ghost use Rattle.rules.specs.Relays as rules;
-ghost use Rattle.state.specs.Meaning.{transferOf, part_of, body_of};
+ghost use Rattle.state.specs.Meaning.{transfer_of, part_of, body_of};
 ghost use Rattle.state.specs.Plans.{turn_of, turned, plan_of, planned};
-ghost use Rattle.generator.specs.Heard.{heardInRow};
-ghost use Rattle.relay.specs.Fitting.{showsView, showsBoth, ifFitting, joinAnswer, timerAnswer, hearsAnswer};
+ghost use Rattle.generator.specs.Heard.{heard_in_row};
+ghost use Rattle.relay.specs.Fitting.{shows_view, shows_both, if_fitting, join_answer, timer_answer, hears_answer};
 
 use stamps::Pair;
 use state::{Body, Event, Part, Plan, Transfer, Turn};
@@ -22,7 +22,7 @@ mod transfers; // transfers, and the head from view to view
 
 // "JOIN is NOT NOW if the relay has entered any view or its join is in its known view; else it sends request(+s, known view) to that view's members."
 pub fn join_asked(s: u8, p: Part) -> Plan
-    ensures { plan_of result ≡ planned noRelay (joinAnswer s (part_of p)) }
+    ensures { plan_of result ≡ planned no_relay (join_answer s (part_of p)) }
 {
     if 8 <= s {
         return parts::refuses(rules::BAD_STEP);
@@ -40,7 +40,7 @@ pub fn join_asked(s: u8, p: Part) -> Plan
 
 // "LEAVE is NOT NOW unless it is a member of its view; it sends request(-s, its view) likewise."
 pub fn leave_asked(s: u8, p: Part) -> Plan
-    ensures { plan_of result ≡ planned noRelay (rules.leaveAsked s (part_of p)) }
+    ensures { plan_of result ≡ planned no_relay (rules.leave_asked s (part_of p)) }
 {
     let v = p.head.view;
     if !views::is_member(v, s) {
@@ -52,7 +52,7 @@ pub fn leave_asked(s: u8, p: Part) -> Plan
 
 // "TIMER is NOT NOW unless active and its view lacks a pending update; it proposes the sequence of one view, its own joined with the pending updates."
 pub fn timer_rang(p: Part) -> Plan
-    ensures { plan_of result ≡ planned noRelay (timerAnswer (part_of p)) }
+    ensures { plan_of result ≡ planned no_relay (timer_answer (part_of p)) }
 {
     let v = p.head.view;
     let pending = p.head.pending;
@@ -71,8 +71,8 @@ pub fn timer_rang(p: Part) -> Plan
 
 // A rule at the generator for v. "A generator or transfer that a rule notes into, proposes with or keeps an install in is taken if absent"
 fn at_generator(p: Part, v: u16, t: Turn) -> Plan
-    requires { showsView v (part_of p) ≡ true }
-    ensures { (turn : generators.Turn) → turn.next.view ≡ v → turn_of t ≡ turned turn → plan_of result ≡ planned noRelay (rules.atGenerator (part_of p) turn) }
+    requires { shows_view v (part_of p) ≡ true }
+    ensures { (turn : generators.Turn) → turn.next.view ≡ v → turn_of t ≡ turned turn → plan_of result ≡ planned no_relay (rules.at_generator (part_of p) turn) }
 {
     let next = t.next;
     let sends = t.sends;
@@ -91,7 +91,7 @@ fn at_generator(p: Part, v: u16, t: Turn) -> Plan
 
 // "Request(u, c), from s. Not entered: nothing. Own view c: add u to pending unless in the view. Another own view: send that one to s,"
 fn request_heard(p: Part, from: u8, u: u16, c: u16) -> Plan
-    ensures { plan_of result ≡ planned noRelay (ifFitting (ltb from 12) (rules.requestHeard (part_of p) from u c)) }
+    ensures { plan_of result ≡ planned no_relay (if_fitting (ltb from 12) (rules.request_heard (part_of p) from u c)) }
 {
     if 12 <= from {
         return parts::refuses(rules::BAD_STEP);
@@ -116,8 +116,8 @@ fn request_heard(p: Part, from: u8, u: u16, c: u16) -> Plan
 
 // "Proposal(v, q): note it for the sender."; "Converged(v, q): note it."
 fn sequence_heard(p: Part, from: u8, v: u16, q: Sequence, converged: bool) -> Plan
-    ensures { plan_of result ≡ planned noRelay (ifFitting (showsView v (part_of p)) (rules.atGenerator (part_of p) (
-        let g = generatorFor v (part_of p).generators in if converged then convergedHeard g from (viewsOf q) else heardInRow g from (viewsOf q)))) }
+    ensures { plan_of result ≡ planned no_relay (if_fitting (shows_view v (part_of p)) (rules.at_generator (part_of p) (
+        let g = generator_for v (part_of p).generators in if converged then converged_heard g from (views_of q) else heard_in_row g from (views_of q)))) }
 {
     if !parts::shows_view(p, v) {
         return parts::refuses(rules::BAD_STEP);
@@ -133,8 +133,8 @@ fn sequence_heard(p: Part, from: u8, v: u16, q: Sequence, converged: bool) -> Pl
 
 // "If q has views above w, propose those for w, not active; else active, event 1."
 fn enters(p: Part, t: Transfer) -> Plan
-    requires { showsView t.new (part_of p) ≡ true }
-    ensures { plan_of result ≡ planned noRelay (rules.enters (withTransfers (part_of p) (transferOf t ∷ [])) (transferOf t)) }
+    requires { shows_view t.new (part_of p) ≡ true }
+    ensures { plan_of result ≡ planned no_relay (rules.enters (with_transfers (part_of p) (transfer_of t ∷ [])) (transfer_of t)) }
 {
     let w = t.new;
     let onward = transfers::onward(t);
@@ -147,8 +147,8 @@ fn enters(p: Part, t: Transfer) -> Plan
 
 // The transfer t is put back, then the entry test.
 fn tested(p: Part, t: Transfer) -> Plan
-    requires { showsBoth t.old t.new (part_of p) ≡ true }
-    ensures { plan_of result ≡ planned noRelay (rules.tested (part_of p) (transferOf t)) }
+    requires { shows_both t.old t.new (part_of p) ≡ true }
+    ensures { plan_of result ≡ planned no_relay (rules.tested (part_of p) (transfer_of t)) }
 {
     if transfers::passes(t) {
         return enters(p, t);
@@ -158,8 +158,8 @@ fn tested(p: Part, t: Transfer) -> Plan
 
 // "If its view is inside w and it is a member of w, the transfer keeps q unless it has one already; then the entry test."
 fn takes_install(s: u8, p: Part, o: u16, w: u16, q: Sequence) -> Plan
-    requires { showsBoth o w (part_of p) ≡ true }
-    ensures { plan_of result ≡ planned noRelay (rules.takesInstall s (part_of p) o w (viewsOf q)) }
+    requires { shows_both o w (part_of p) ≡ true }
+    ensures { plan_of result ≡ planned no_relay (rules.takes_install s (part_of p) o w (views_of q)) }
 {
     if !views::inside(p.head.view, w) {
         return parts::quietly(p);
@@ -172,7 +172,7 @@ fn takes_install(s: u8, p: Part, o: u16, w: u16, q: Sequence) -> Plan
 
 // "Install(o, w, q)"
 fn install_heard(s: u8, p: Part, o: u16, w: u16, q: Sequence) -> Plan
-    ensures { plan_of result ≡ planned noRelay (ifFitting (showsBoth o w (part_of p)) (rules.installHeard s (part_of p) o w (viewsOf q))) }
+    ensures { plan_of result ≡ planned no_relay (if_fitting (shows_both o w (part_of p)) (rules.install_heard s (part_of p) o w (views_of q))) }
 {
     if !parts::shows(p, o, w) {
         return parts::refuses(rules::BAD_STEP);
@@ -192,7 +192,7 @@ fn install_heard(s: u8, p: Part, o: u16, w: u16, q: Sequence) -> Plan
 // "note sender, greatest stamp with its value, updates"
 fn gathers(t: Transfer, from: u8, pair: Pair, updates: u16) -> Transfer
     requires { from < 8 }
-    ensures { transferOf result ≡ rules.gathers (transferOf t) from pair updates }
+    ensures { transfer_of result ≡ rules.gathers (transfer_of t) from pair updates }
 {
     let held = t.best;
     let mut r = t;
@@ -204,7 +204,7 @@ fn gathers(t: Transfer, from: u8, pair: Pair, updates: u16) -> Transfer
 
 // "State(o, w, ..): nothing unless the receiver's view is inside w. Else note sender, greatest stamp with its value, updates; then the entry test."
 fn state_heard(p: Part, from: u8, o: u16, w: u16, pair: Pair, updates: u16) -> Plan
-    ensures { plan_of result ≡ planned noRelay (ifFitting (ltb from 8 && showsBoth o w (part_of p)) (rules.stateHeard (part_of p) from o w pair updates)) }
+    ensures { plan_of result ≡ planned no_relay (if_fitting (ltb from 8 && shows_both o w (part_of p)) (rules.state_heard (part_of p) from o w pair updates)) }
 {
     if 8 <= from {
         return parts::refuses(rules::BAD_STEP);
@@ -225,7 +225,7 @@ fn state_heard(p: Part, from: u8, o: u16, w: u16, pair: Pair, updates: u16) -> P
 
 // "NOT YET unless active and c equals the own view or is inside it. If inside: reply with the own view." If equal, the relay is `next`, and `reply` goes out.
 fn served(p: Part, next: Part, from: u8, tries: u16, c: u16, reply: Body) -> Plan
-    ensures { plan_of result ≡ planned noRelay (ifFitting (ltb from 12) (rules.servedBy (part_of p) (part_of next) from tries c (body_of reply))) }
+    ensures { plan_of result ≡ planned no_relay (if_fitting (ltb from 12) (rules.served_by (part_of p) (part_of next) from tries c (body_of reply))) }
 {
     if 12 <= from {
         return parts::refuses(rules::BAD_STEP);
@@ -242,7 +242,7 @@ fn served(p: Part, next: Part, from: u8, tries: u16, c: u16, reply: Body) -> Pla
 
 // "If equal: Get replies stamp and value;"
 fn get_heard(p: Part, from: u8, tries: u16, c: u16) -> Plan
-    ensures { plan_of result ≡ planned noRelay (ifFitting (ltb from 12) (rules.getHeard (part_of p) from tries c)) }
+    ensures { plan_of result ≡ planned no_relay (if_fitting (ltb from 12) (rules.get_heard (part_of p) from tries c)) }
 {
     let holds = p.head.holds;
     served(p, p, from, tries, c, messages::pair_reply(tries, holds))
@@ -250,7 +250,7 @@ fn get_heard(p: Part, from: u8, tries: u16, c: u16) -> Plan
 
 // "Put stores if its stamp is greater, and acknowledges either way."
 fn put_heard(p: Part, from: u8, tries: u16, c: u16, pair: Pair) -> Plan
-    ensures { plan_of result ≡ planned noRelay (ifFitting (ltb from 12) (rules.putHeard (part_of p) from tries c pair)) }
+    ensures { plan_of result ≡ planned no_relay (if_fitting (ltb from 12) (rules.put_heard (part_of p) from tries c pair)) }
 {
     let held = p.head.holds;
     let best = stamps::greatest(held, pair);
@@ -265,7 +265,7 @@ fn put_heard(p: Part, from: u8, tries: u16, c: u16, pair: Pair) -> Plan
 
 // A message comes to the relay s. (Replies go to desks only.)
 pub fn hears(s: u8, p: Part, from: u8, b: Body) -> Plan
-    ensures { plan_of result ≡ planned noRelay (hearsAnswer s (part_of p) from (body_of b)) }
+    ensures { plan_of result ≡ planned no_relay (hears_answer s (part_of p) from (body_of b)) }
 {
     let kind = b.kind;
     let q = b.sequence;

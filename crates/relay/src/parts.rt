@@ -1,17 +1,17 @@
 // What a relay answers, made of the part that it is then; and what the part shows.
 ghost use Rattle.std.specs.Prelude.{◌≡◌, List, [], ◌∷◌};
 ghost use Rattle.rules.specs.Messages as rules;
-ghost use Rattle.rules.specs.State.{Relay, noRelay};
+ghost use Rattle.rules.specs.State.{Relay, no_relay};
 ghost use Rattle.rules.specs.Generators as generators;
-ghost use Rattle.state.specs.Meaning.{generatorOf, part_of, sendingOf, eventOf};
+ghost use Rattle.state.specs.Meaning.{generator_of, part_of, sending_of, event_of};
 ghost use Rattle.state.specs.Plans.{plan_of, planned};
-ghost use Rattle.relay.specs.Fitting.{showsView, showsMove, showsBoth};
+ghost use Rattle.relay.specs.Fitting.{shows_view, shows_move, shows_both};
 
 use state::{Event, Generator, Head, Part, Plan, Sending};
 
 // Refusals "change nothing": all but the number is blank.
 pub(crate) fn refuses(answer: u8) -> Plan
-    ensures { (x : rules.Refusal) → answer ≡ rules.number x → plan_of result ≡ planned noRelay (rules.refused x) }
+    ensures { (x : rules.Refusal) → answer ≡ rules.number x → plan_of result ≡ planned no_relay (rules.refused x) }
 {
     let head = Head {
         alive: false,
@@ -38,7 +38,7 @@ pub(crate) fn refuses(answer: u8) -> Plan
 }
 
 pub(crate) fn tells(p: Part, event: Event) -> Plan
-    ensures { plan_of result ≡ planned noRelay (rules.does (part_of p) [] (eventOf event)) }
+    ensures { plan_of result ≡ planned no_relay (rules.does (part_of p) [] (event_of event)) }
 {
     Plan {
         answer: 0,
@@ -49,13 +49,13 @@ pub(crate) fn tells(p: Part, event: Event) -> Plan
 }
 
 pub(crate) fn quietly(p: Part) -> Plan
-    ensures { plan_of result ≡ planned noRelay (rules.quietly (part_of p)) }
+    ensures { plan_of result ≡ planned no_relay (rules.quietly (part_of p)) }
 {
     tells(p, Event::Nothing)
 }
 
 pub(crate) fn sends(p: Part, s: Sending) -> Plan
-    ensures { plan_of result ≡ planned noRelay (rules.sends (part_of p) (sendingOf s ∷ [])) }
+    ensures { plan_of result ≡ planned no_relay (rules.sends (part_of p) (sending_of s ∷ [])) }
 {
     sent_first(s, quietly(p))
 }
@@ -63,7 +63,7 @@ pub(crate) fn sends(p: Part, s: Sending) -> Plan
 // A plan that is no refusal, with a sending that the rule names first.
 pub(crate) fn sent_first(s: Sending, later: Plan) -> Plan
     ensures { (a : Relay) (ss : List rules.Sending) (e : rules.Event)
-        → plan_of later ≡ planned noRelay (rules.does a ss e) → plan_of result ≡ planned noRelay (rules.does a (sendingOf s ∷ ss) e) }
+        → plan_of later ≡ planned no_relay (rules.does a ss e) → plan_of result ≡ planned no_relay (rules.does a (sending_of s ∷ ss) e) }
 {
     let part = later.part;
     let rest = later.sends;
@@ -78,7 +78,7 @@ pub(crate) fn sent_first(s: Sending, later: Plan) -> Plan
 
 // The generator for v; one that is absent is fresh.
 pub(crate) fn generator_for(p: Part, v: u16) -> Generator
-    ensures { generatorOf result ≡ generators.generatorFor v (part_of p).generators }
+    ensures { generator_of result ≡ generators.generator_for v (part_of p).generators }
 {
     if !p.generates {
         return generator::fresh(v);
@@ -91,7 +91,7 @@ pub(crate) fn generator_for(p: Part, v: u16) -> Generator
 
 // The generator that is shown, if any, is the one for v.
 pub(crate) fn shows_view(p: Part, v: u16) -> bool
-    ensures { result ≡ showsView v (part_of p) }
+    ensures { result ≡ shows_view v (part_of p) }
 {
     if !p.generates {
         return true;
@@ -101,7 +101,7 @@ pub(crate) fn shows_view(p: Part, v: u16) -> bool
 
 // The transfer that is shown, if any, is the one from o to w.
 pub(crate) fn shows_move(p: Part, o: u16, w: u16) -> bool
-    ensures { result ≡ showsMove o w (part_of p) }
+    ensures { result ≡ shows_move o w (part_of p) }
 {
     if !p.transfers {
         return true;
@@ -114,7 +114,7 @@ pub(crate) fn shows_move(p: Part, o: u16, w: u16) -> bool
 
 // Both, as what is told of a move from o to w needs them.
 pub(crate) fn shows(p: Part, o: u16, w: u16) -> bool
-    ensures { result ≡ showsBoth o w (part_of p) }
+    ensures { result ≡ shows_both o w (part_of p) }
 {
     if !shows_view(p, w) {
         return false;

@@ -1,17 +1,17 @@
 // Transfers, and a part's head as it goes from view to view.
 ghost use Rattle.std.specs.Prelude.{◌≡◌, [], ◌∷◌};
-ghost use Rattle.views.specs.Row.{viewsOf};
+ghost use Rattle.views.specs.Row.{views_of};
 ghost use Rattle.rules.specs.Sets.{if◌then◌else◌, inside};
 ghost use Rattle.rules.specs.Sets as sets;
-ghost use Rattle.rules.specs.State.{withTransfers};
+ghost use Rattle.rules.specs.State.{with_transfers};
 ghost use Rattle.rules.specs.Relays as rules;
-ghost use Rattle.state.specs.Meaning.{transferOf, part_of};
+ghost use Rattle.state.specs.Meaning.{transfer_of, part_of};
 
 use state::{Head, Part, Transfer};
 use views::Sequence;
 
 pub(crate) fn fresh(o: u16, w: u16) -> Transfer
-    ensures { transferOf result ≡ rules.freshTransfer o w }
+    ensures { transfer_of result ≡ rules.fresh_transfer o w }
 {
     Transfer {
         old: o,
@@ -25,7 +25,7 @@ pub(crate) fn fresh(o: u16, w: u16) -> Transfer
 
 // The transfer from o to w; one that is absent is fresh.
 pub(crate) fn transfer_for(p: Part, o: u16, w: u16) -> Transfer
-    ensures { transferOf result ≡ rules.transferFor o w (part_of p).transfers }
+    ensures { transfer_of result ≡ rules.transfer_for o w (part_of p).transfers }
 {
     if !p.transfers {
         return fresh(o, w);
@@ -37,7 +37,7 @@ pub(crate) fn transfer_for(p: Part, o: u16, w: u16) -> Transfer
 }
 
 pub(crate) fn with_transfer(p: Part, t: Transfer) -> Part
-    ensures { part_of result ≡ withTransfers (part_of p) (transferOf t ∷ []) }
+    ensures { part_of result ≡ with_transfers (part_of p) (transfer_of t ∷ []) }
 {
     let mut r = p;
     r.transfers = true;
@@ -47,7 +47,7 @@ pub(crate) fn with_transfer(p: Part, t: Transfer) -> Part
 
 // "the transfer keeps q unless it has one already"
 pub(crate) fn keeps(t: Transfer, q: Sequence) -> Transfer
-    ensures { transferOf result ≡ rules.keeps (transferOf t) (viewsOf q) }
+    ensures { transfer_of result ≡ rules.keeps (transfer_of t) (views_of q) }
 {
     let held = t.sequence;
     if 0 < views::count(held) {
@@ -60,7 +60,7 @@ pub(crate) fn keeps(t: Transfer, q: Sequence) -> Transfer
 
 // "Entry test: install present and a quorum of o has sent state."
 pub(crate) fn passes(t: Transfer) -> bool
-    ensures { result ≡ rules.passes (transferOf t) }
+    ensures { result ≡ rules.passes (transfer_of t) }
 {
     let q = t.sequence;
     if views::count(q) == 0 {
@@ -71,7 +71,7 @@ pub(crate) fn passes(t: Transfer) -> bool
 
 // The views above w.
 pub(crate) fn onward(t: Transfer) -> Sequence
-    ensures { viewsOf result ≡ rules.onward (transferOf t) }
+    ensures { views_of result ≡ rules.onward (transfer_of t) }
 {
     let q = t.sequence;
     views::beyond(t.new, q)
@@ -106,7 +106,7 @@ pub(crate) fn less(a: u16, b: u16) -> u16
 
 // The part after the entry by t. "transfers whose new view does not strictly include w are freed": t is one of them.
 pub(crate) fn moved(p: Part, t: Transfer, active: bool) -> Part
-    ensures { part_of result ≡ rules.moved (withTransfers (part_of p) (transferOf t ∷ [])) (transferOf t) active }
+    ensures { part_of result ≡ rules.moved (with_transfers (part_of p) (transfer_of t ∷ [])) (transfer_of t) active }
 {
     let w = t.new;
     let best = t.best;

@@ -14,33 +14,33 @@ pub record Changed {A : Type 0} (d : A) (xs : List A) (i : ℕ) (y : A) (ys : Li
   pub others : (k : ℕ) → k ≢ i → get_or ys k d ≡ get_or xs k d
 
 module _ {A : Type 0} {d : A} where
-  changed-none : {y : A} → Changed d [] 0 y (y ∷ [])
-  changed-none {y} = record { here = refl; others = go }
+  changed_none : {y : A} → Changed d [] 0 y (y ∷ [])
+  changed_none {y} = record { here = refl; others = go }
     where
       go : (k : ℕ) → k ≢ 0 → get_or (y ∷ []) k d ≡ d
       go zero q = absurd (q refl)
       go (suc k) q = refl
 
-  pub changed-first : {x y : A} {xs : List A} → Changed d (x ∷ xs) 0 y (y ∷ xs)
-  changed-first {x} {y} {xs} = record { here = refl; others = go }
+  pub changed_first : {x y : A} {xs : List A} → Changed d (x ∷ xs) 0 y (y ∷ xs)
+  changed_first {x} {y} {xs} = record { here = refl; others = go }
     where
       go : (k : ℕ) → k ≢ 0 → get_or (y ∷ xs) k d ≡ get_or (x ∷ xs) k d
       go zero q = absurd (q refl)
       go (suc k) q = refl
 
-  pub changed-more : {x y : A} {xs ys : List A} {i : ℕ} → Changed d xs i y ys → Changed d (x ∷ xs) (suc i) y (x ∷ ys)
-  changed-more {x} {y} {xs} {ys} {i} c = record { here = c.here; others = go }
+  pub changed_more : {x y : A} {xs ys : List A} {i : ℕ} → Changed d xs i y ys → Changed d (x ∷ xs) (suc i) y (x ∷ ys)
+  changed_more {x} {y} {xs} {ys} {i} c = record { here = c.here; others = go }
     where
       go : (k : ℕ) → k ≢ suc i → get_or (x ∷ ys) k d ≡ get_or (x ∷ xs) k d
       go zero q = refl
       go (suc k) q = c.others k (λ e. q (ap suc e))
 
-  pub changed-set : (xs : List A) (i : ℕ) (y : A) → i < length xs → Changed d xs i y (set xs i y)
-  changed-set xs i y h = record { here = get_or-set_same xs i y d h; others = λ k q. get_or-set_other xs i k y d q }
+  pub changed_set : (xs : List A) (i : ℕ) (y : A) → i < length xs → Changed d xs i y (set xs i y)
+  changed_set xs i y h = record { here = get_or-set_same xs i y d h; others = λ k q. get_or-set_other xs i k y d q }
 
-  pub changed-add : (xs : List A) (y : A) → Changed d xs (length xs) y (xs ++ (y ∷ []))
-  changed-add [] y = changed-none
-  changed-add (x ∷ xs) y = changed-more (changed-add xs y)
+  pub changed_add : (xs : List A) (y : A) → Changed d xs (length xs) y (xs ++ (y ∷ []))
+  changed_add [] y = changed_none
+  changed_add (x ∷ xs) y = changed_more (changed_add xs y)
 
 -- ---- the table: v written at o inside row i, which makes it y's row
 

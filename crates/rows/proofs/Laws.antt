@@ -26,9 +26,9 @@ unfolding splice
 splice_at p q b o e = rw (← e, take_at p q (length p) refl, drop-append-add)
 
 -- a piece, and then one right after it
-splice-more : (l a b : List ℕ) (o : ℕ) → o ≤ length l → splice (splice l o a) (o + length a) b ≡ splice l o (a ++ b)
+splice_more : (l a b : List ℕ) (o : ℕ) → o ≤ length l → splice (splice l o a) (o + length a) b ≡ splice l o (a ++ b)
 unfolding splice
-splice-more l a b o h =
+splice_more l a b o h =
     rw (← append_assoc (take o l) a (drop (o + length a) l))
     (splice_at (take o l ++ a) (drop (o + length a) l) b (o + length a) (simp (length-append, length-take) (omega arith))
     ∙ simp (append_assoc, drop-drop, length-append, add_assoc))
@@ -50,65 +50,65 @@ splice-left b c v o h =
     let k : o ≤ length b = omega arith in
     simp (append_assoc, take-append-le o b c k, drop-append-le (o + length v) b c h)
 
-pub splice-right : (a b v : List ℕ) (n o : ℕ) → length a ≡ n → splice (a ++ b) (n + o) v ≡ a ++ splice b o v
+pub splice_right : (a b v : List ℕ) (n o : ℕ) → length a ≡ n → splice (a ++ b) (n + o) v ≡ a ++ splice b o v
 unfolding splice
-splice-right a b v n o e = rw (← e) (simp (take-append-add, add_assoc, drop-append-add, append_assoc))
+splice_right a b v n o e = rw (← e) (simp (take-append-add, add_assoc, drop-append-add, append_assoc))
 
-splice-nil : (l : List ℕ) (o : ℕ) → splice l o [] ≡ l
+splice_nil : (l : List ℕ) (o : ℕ) → splice l o [] ≡ l
 unfolding splice
-splice-nil l o = rw add-zero (take-append-drop o l)
+splice_nil l o = rw add-zero (take-append-drop o l)
 
 -- ---- placed
 
-by-room : (P : List ℕ → Type 0) (l b : List ℕ) (o : ℕ) → (o + length b ≤ length l → P (splice l o b)) → (length l < o + length b → P l) → P (placed l o b)
+by_room : (P : List ℕ → Type 0) (l b : List ℕ) (o : ℕ) → (o + length b ≤ length l → P (splice l o b)) → (length l < o + length b → P l) → P (placed l o b)
 unfolding placed
-by-room P l b o fits misses = go (leb (o + length b) (length l)) refl
+by_room P l b o fits misses = go (leb (o + length b) (length l)) refl
   where
     go : (t : Bool) → leb (o + length b) (length l) ≡ t → P (cond t (splice l o b) l)
     go true e = fits (leb-true (o + length b) (length l) e)
     go false e = misses (leb-false (o + length b) (length l) e)
 
-pub placed-fits : (l b : List ℕ) (o : ℕ) → o + length b ≤ length l → placed l o b ≡ splice l o b
+pub placed_fits : (l b : List ℕ) (o : ℕ) → o + length b ≤ length l → placed l o b ≡ splice l o b
 unfolding placed
-placed-fits l b o h = rw (le-leb (o + length b) (length l) h)
+placed_fits l b o h = rw (le-leb (o + length b) (length l) h)
 
-pub placed-not : (l b : List ℕ) (o : ℕ) → length l < o + length b → placed l o b ≡ l
+pub placed_not : (l b : List ℕ) (o : ℕ) → length l < o + length b → placed l o b ≡ l
 unfolding placed
-placed-not l b o h = rw (lt-leb (o + length b) (length l) h)
+placed_not l b o h = rw (lt-leb (o + length b) (length l) h)
 
 pub placed-length : (l b : List ℕ) (o : ℕ) → length (placed l o b) ≡ length l
-placed-length l b o = by-room (λ t. length t ≡ length l) l b o (splice-length l b o) (λ h. refl)
+placed-length l b o = by_room (λ t. length t ≡ length l) l b o (splice-length l b o) (λ h. refl)
 
-pub placed-nil : (l : List ℕ) (o : ℕ) → placed l o [] ≡ l
-placed-nil l o = by-room (λ t. t ≡ l) l [] o (λ h. splice-nil l o) (λ h. refl)
+pub placed_nil : (l : List ℕ) (o : ℕ) → placed l o [] ≡ l
+placed_nil l o = by_room (λ t. t ≡ l) l [] o (λ h. splice_nil l o) (λ h. refl)
 
 -- two pieces that have room
-placed-twice : (l a b : List ℕ) (o p : ℕ) → o + length a ≤ length l → p + length b ≤ length l → placed (placed l o a) p b ≡ splice (splice l o a) p b
-placed-twice l a b o p h k = rw (placed-fits l a o h) (placed-fits (splice l o a) b p (rw (splice-length l a o h) k))
+placed_twice : (l a b : List ℕ) (o p : ℕ) → o + length a ≤ length l → p + length b ≤ length l → placed (placed l o a) p b ≡ splice (splice l o a) p b
+placed_twice l a b o p h k = rw (placed_fits l a o h) (placed_fits (splice l o a) b p (rw (splice-length l a o h) k))
 
 -- they are one where they stand side by side, whichever is written first
 module _ (l a b : List ℕ) (o : ℕ) (h : o + (length a + length b) ≤ length l) where
   whole : splice l o (a ++ b) ≡ placed l o (a ++ b)
-  whole = sym (placed-fits l (a ++ b) o (rw length-append h))
+  whole = sym (placed_fits l (a ++ b) o (rw length-append h))
 
-  pub placed-more : placed (placed l o a) (o + length a) b ≡ placed l o (a ++ b)
-  placed-more = placed-twice l a b o (o + length a) (omega arith) (omega arith) ∙ splice-more l a b o (omega arith) ∙ whole
+  pub placed_more : placed (placed l o a) (o + length a) b ≡ placed l o (a ++ b)
+  placed_more = placed_twice l a b o (o + length a) (omega arith) (omega arith) ∙ splice_more l a b o (omega arith) ∙ whole
 
   pub placed-before : placed (placed l (o + length a) b) o a ≡ placed l o (a ++ b)
-  placed-before = placed-twice l b a (o + length a) o (omega arith) (omega arith) ∙ splice-before l a b o (omega arith) ∙ whole
+  placed-before = placed_twice l b a (o + length a) o (omega arith) (omega arith) ∙ splice-before l a b o (omega arith) ∙ whole
 
 -- what the code's test of the room says: `!has_room(..)` is false, or true
 pub room : {r : Bool} {m n : ℕ} → r ≡ leb m n → not r ≡ false → m ≤ n
 room {r} {m} {n} e t = leb-true m n (sym e ∙ not-false r t)
 
 pub no_room : {r : Bool} {n : ℕ} (l b : List ℕ) (o : ℕ) → length b ≡ n → r ≡ leb (o + n) (length l) → not r ≡ true → l ≡ placed l o b
-no_room {r} {n} l b o w e t = sym (placed-not l b o (omega (arith, leb-false (o + n) (length l) (sym e ∙ not-true r t))))
+no_room {r} {n} l b o w e t = sym (placed_not l b o (omega (arith, leb-false (o + n) (length l) (sym e ∙ not-true r t))))
 
 -- a store is a piece of one byte, in the list and past its end
 pub set-placed : (l : List ℕ) (o x : ℕ) → set l o x ≡ placed l o (x ∷ [])
 unfolding splice
 set-placed l o x =
-    by-room (λ t. set l o x ≡ t) l (x ∷ []) o
+    by_room (λ t. set l o x ≡ t) l (x ∷ []) o
     (λ h. sets-eq (x ∷ []) l o h ∙ append_assoc (take o l) (x ∷ []) (drop (o + 1) l))
     (λ h. set_out l o x (omega arith))
 
@@ -120,10 +120,10 @@ module _ (w : ℕ) where
   length_run zero f h = omega arith
   length_run (suc n) f h = simp length-append (omega (arith, length_run n f h, h n))
 
-pub run-ext : (n : ℕ) (f g : ℕ → List ℕ) → ((k : ℕ) → k < n → f k ≡ g k) → run n f ≡ run n g
+pub run_ext : (n : ℕ) (f g : ℕ → List ℕ) → ((k : ℕ) → k < n → f k ≡ g k) → run n f ≡ run n g
 unfolding run
-run-ext zero f g h = refl
-run-ext (suc n) f g h = let e = run-ext n f g (λ k p. h k (omega arith)) in let e2 = h n (omega arith) in cc
+run_ext zero f g h = refl
+run_ext (suc n) f g h = let e = run_ext n f g (λ k p. h k (omega arith)) in let e2 = h n (omega arith) in cc
 
 -- the i-th of n pieces of width w ends inside the run
 pub run_inside : (w i n : ℕ) → i < n → i * w + w ≤ n * w
@@ -144,9 +144,9 @@ run-write w (suc n) i o f g v lf hi ho e other =
   where
     go : Dec (i ≡ n) → ((i ≡ n → ⊥) → splice (run n f) (i * w + o) v ≡ run n g) → splice (run n f ++ f n) (i * w + o) v ≡ run n g ++ g n
     go (yes p) _ =
-        let same : run n f ≡ run n g = run-ext n f g (λ k h. sym (other k (omega arith) (λ z. omega arith))) in
+        let same : run n f ≡ run n g = run_ext n f g (λ k h. sym (other k (omega arith) (λ z. omega arith))) in
         let here : g n ≡ splice (f n) o v = rw p at e in
-        splice-right (run n f) (f n) v (i * w) o (length_run w n f lf ∙ ap (λ (k : ℕ). k * w) (sym p)) ∙ cc
+        splice_right (run n f) (f n) v (i * w) o (length_run w n f lf ∙ ap (λ (k : ℕ). k * w) (sym p)) ∙ cc
     go (no q) rec =
         let inside : i * w + o + length v ≤ length (run n f) =
         rw (length_run w n f lf) (omega (arith, run_inside w i n (omega arith))) in
@@ -163,14 +163,14 @@ pub record Holds (l : List ℕ) (o : ℕ) (b : List ℕ) : Type 0 where
   pub long : length pre ≡ o
   pub whole : l ≡ pre ++ (b ++ post)
 
-pub holds-self : (l : List ℕ) → Holds l 0 l
-holds-self l = record { pre = []; post = []; long = refl; whole = sym (append-nil l) }
+pub holds_self : (l : List ℕ) → Holds l 0 l
+holds_self l = record { pre = []; post = []; long = refl; whole = sym (append-nil l) }
 
 pub holds-left : (l a b : List ℕ) (o : ℕ) → Holds l o (a ++ b) → Holds l o a
 holds-left l a b o h = record { pre = h.pre; post = b ++ h.post; long = h.long; whole = h.whole ∙ simp append_assoc }
 
-pub holds-right : (l a b : List ℕ) (o n : ℕ) → length a ≡ n → Holds l o (a ++ b) → Holds l (o + n) b
-holds-right l a b o n e h =
+pub holds_right : (l a b : List ℕ) (o n : ℕ) → length a ≡ n → Holds l o (a ++ b) → Holds l (o + n) b
+holds_right l a b o n e h =
     record { pre = h.pre ++ a; post = h.post; long = simp length-append (omega (arith, h.long)); whole = h.whole ∙ simp append_assoc }
 
 pub holds-run : (w n i o : ℕ) (l : List ℕ) (f : ℕ → List ℕ) → ((k : ℕ) → length (f k) ≡ w) → i < n → Holds l o (run n f) → Holds l (o + i * w) (f i)
@@ -179,7 +179,7 @@ holds-run w zero i o l f lf hi h = absurd (omega arith)
 holds-run w (suc n) i o l f lf hi h = go (ℕ_discrete i n) (λ q. holds-run w n i o l f lf (omega arith) (holds-left l (run n f) (f n) o h))
   where
     go : Dec (i ≡ n) → ((i ≡ n → ⊥) → Holds l (o + i * w) (f i)) → Holds l (o + i * w) (f i)
-    go (yes p) _ = rw p (holds-right l (run n f) (f n) o (n * w) (length_run w n f lf) h)
+    go (yes p) _ = rw p (holds_right l (run n f) (f n) o (n * w) (length_run w n f lf) h)
     go (no q) rec = rec q
 
 -- one list holds one piece of a length at a place
@@ -208,7 +208,7 @@ put_then {l₀} {o} {n} {a} {l} {m} b t p w h e =
     record {
       wide = simp length-append (omega (arith, p.wide));
       long = ap length e ∙ placed-length l b (o + n) ∙ p.long;
-      is = e ∙ rw (← p.wide, p.is) (placed-more l₀ a b o (omega (arith, p.wide)));
+      is = e ∙ rw (← p.wide, p.is) (placed_more l₀ a b o (omega (arith, p.wide)));
     }
 
 -- ---- a loop that writes a run, one piece a turn
@@ -220,19 +220,19 @@ pub record Wrote (w n : ℕ) (f : ℕ → List ℕ) (s₀ : List ℕ) (o i : ℕ
 
 pub wrote_none : {w n : ℕ} {f : ℕ → List ℕ} {s : List ℕ} {o : ℕ} → Wrote w n f s o 0 s
 unfolding run
-wrote_none {w} {n} {f} {s} {o} = record { within = omega arith; long = refl; is = sym (placed-nil s o) }
+wrote_none {w} {n} {f} {s} {o} = record { within = omega arith; long = refl; is = sym (placed_nil s o) }
 
 module _ {w n : ℕ} {f : ℕ → List ℕ} {s₀ : List ℕ} {o : ℕ} (lf : (k : ℕ) → length (f k) ≡ w) (room : o + n * w ≤ length s₀) where
-  pub wrote-more : {i : ℕ} {s : List ℕ} (t : List ℕ) (p : ℕ) → Wrote w n f s₀ o i s → i < n → p ≡ o + i * w → t ≡ placed s p (f i) → Wrote w n f s₀ o (i + 1) t
+  pub wrote_more : {i : ℕ} {s : List ℕ} (t : List ℕ) (p : ℕ) → Wrote w n f s₀ o i s → i < n → p ≡ o + i * w → t ≡ placed s p (f i) → Wrote w n f s₀ o (i + 1) t
   unfolding run
-  wrote-more {i} {s} t p h b q e =
+  wrote_more {i} {s} t p h b q e =
       let inside : i * w + w ≤ n * w = run_inside w i n b in
       let lr : length (run i f) ≡ i * w = length_run w i f lf in
       let at1 : p ≡ o + length (run i f) = omega arith in
       record {
         within = omega arith;
         long = ap length e ∙ placed-length s (f i) p ∙ h.long;
-        is = e ∙ ap (λ (l : List ℕ). placed l p (f i)) h.is ∙ rw (at1, add-one i) (placed-more s₀ (run i f) (f i) o (omega (arith, lf i)));
+        is = e ∙ ap (λ (l : List ℕ). placed l p (f i)) h.is ∙ rw (at1, add-one i) (placed_more s₀ (run i f) (f i) o (omega (arith, lf i)));
       }
 
   pub wrote-all : {i : ℕ} {s : List ℕ} → Wrote w n f s₀ o i s → n ≤ i → s ≡ placed s₀ o (run n f)
@@ -246,25 +246,25 @@ module _ {A : Type 0} where
   length-tab zero f = refl
   length-tab (suc n) f = simp length-append (omega (arith, length-tab n f))
 
-  pub tab-ext : (n : ℕ) (f g : ℕ → A) → ((k : ℕ) → k < n → f k ≡ g k) → tab n f ≡ tab n g
+  pub tab_ext : (n : ℕ) (f g : ℕ → A) → ((k : ℕ) → k < n → f k ≡ g k) → tab n f ≡ tab n g
   unfolding tab
-  tab-ext zero f g h = refl
-  tab-ext (suc n) f g h = let e = tab-ext n f g (λ k p. h k (omega arith)) in let e2 = h n (omega arith) in cc
+  tab_ext zero f g h = refl
+  tab_ext (suc n) f g h = let e = tab_ext n f g (λ k p. h k (omega arith)) in let e2 = h n (omega arith) in cc
 
-  pub getD-tab : (n i : ℕ) (f : ℕ → A) (d : A) → i < n → get_or (tab n f) i d ≡ f i
+  pub get_d_tab : (n i : ℕ) (f : ℕ → A) (d : A) → i < n → get_or (tab n f) i d ≡ f i
   unfolding tab
-  getD-tab zero i f d h = absurd (omega arith)
-  getD-tab (suc n) i f d h = go (ℕ_discrete i n) (λ q. getD-tab n i f d (omega arith))
+  get_d_tab zero i f d h = absurd (omega arith)
+  get_d_tab (suc n) i f d h = go (ℕ_discrete i n) (λ q. get_d_tab n i f d (omega arith))
     where
       go : Dec (i ≡ n) → ((i ≡ n → ⊥) → get_or (tab n f) i d ≡ f i) → get_or (tab n f ++ (f n ∷ [])) i d ≡ f i
       go (yes p) _ = get_or_at (tab n f) (f n) [] d i (length-tab n f ∙ sym p) ∙ sym (ap f p)
       go (no q) rec = get_or-append (tab n f) (f n ∷ []) d i (omega (arith, length-tab n f)) ∙ rec q
 
   -- a list is the tab of its own elements
-  pub tab-getD : (l : List A) (n : ℕ) (d : A) → length l ≡ n → tab n (λ k. get_or l k d) ≡ l
-  tab-getD l n d e =
+  pub tab_get_d : (l : List A) (n : ℕ) (d : A) → length l ≡ n → tab n (λ k. get_or l k d) ≡ l
+  tab_get_d l n d e =
       ext_get_or d (tab n (λ k. get_or l k d)) l (length-tab n (λ k. get_or l k d) ∙ sym e)
-      (λ i h. getD-tab n i (λ k. get_or l k d) d (omega (arith, length-tab n (λ k. get_or l k d))))
+      (λ i h. get_d_tab n i (λ k. get_or l k d) d (omega (arith, length-tab n (λ k. get_or l k d))))
 
   -- ---- a list that a loop fills from the front
 
@@ -284,7 +284,7 @@ module _ {A : Type 0} where
       go k p (yes q) = rw q (get_or-set_same l i x d (omega (arith, h.long)) ∙ e)
       go k p (no q) = get_or-set_other l i k x d q ∙ h.each k (omega arith)
 
-  pub fill-all : {n : ℕ} {d : A} {f : ℕ → A} {i : ℕ} {l : List A} → Filled n d f i l → n ≤ i → l ≡ tab n f
-  fill-all {n} {d} {f} {i} {l} h b =
+  pub fill_all : {n : ℕ} {d : A} {f : ℕ → A} {i : ℕ} {l : List A} → Filled n d f i l → n ≤ i → l ≡ tab n f
+  fill_all {n} {d} {f} {i} {l} h b =
       ext_get_or d l (tab n f) (h.long ∙ sym (length-tab n f))
-      (λ k p. h.each k (omega (arith, h.long, h.within)) ∙ sym (getD-tab n k f d (omega (arith, h.long))))
+      (λ k p. h.each k (omega (arith, h.long, h.within)) ∙ sym (get_d_tab n k f d (omega (arith, h.long))))

@@ -7,7 +7,7 @@ use native.Mathlib.Omega.{arith}
 use lib.ListN.{length, get_or, drop_of_length-le}
 use lib.Seq.{ext_get_or}
 use Rattle.rows.specs.Bytes.{splice, table, tab, zeros}
-use Rattle.rows.proofs.Laws.{length_run, Holds, holds-self, holds_same, holds-run, tab-ext, tab-getD}
+use Rattle.rows.proofs.Laws.{length_run, Holds, holds_self, holds_same, holds-run, tab_ext, tab_get_d}
 
 pub splice-whole : (b v : List ℕ) → length v ≡ length b → splice b 0 v ≡ v
 unfolding splice
@@ -30,25 +30,25 @@ module _ {A : Type 0} (enc : A → List ℕ) (d : A) (w n : ℕ) (wide : (x : A)
 
   module _ (dec : List ℕ → ℕ → A) (l : List ℕ) (o : ℕ) where
     -- the rows that l holds are read back
-    pub table-back : (Good : A → Type 0) → ((p : ℕ) (x : A) → Good x → Holds l p (enc x) → dec l p ≡ x)
+    pub table_back : (Good : A → Type 0) → ((p : ℕ) (x : A) → Good x → Holds l p (enc x) → dec l p ≡ x)
         → (xs : List A) → length xs ≡ n → ((k : ℕ) → k < n → Good (get_or xs k d)) → Holds l o (table enc d n xs)
         → tab n (λ k. dec l (o + k * w)) ≡ xs
-    table-back Good back xs lx good h =
-        tab-ext n (λ k. dec l (o + k * w)) (λ k. get_or xs k d) (λ k p. back (o + k * w) (get_or xs k d) (good k p) (table-holds l o k xs p h))
-        ∙ tab-getD xs n d lx
+    table_back Good back xs lx good h =
+        tab_ext n (λ k. dec l (o + k * w)) (λ k. get_or xs k d) (λ k p. back (o + k * w) (get_or xs k d) (good k p) (table-holds l o k xs p h))
+        ∙ tab_get_d xs n d lx
 
   -- one image, one list of rows
-  pub table-injective : (Good : A → Type 0) → ((x y : A) → Good x → Good y → enc x ≡ enc y → x ≡ y)
+  pub table_injective : (Good : A → Type 0) → ((x y : A) → Good x → Good y → enc x ≡ enc y → x ≡ y)
       → (xs ys : List A) → length xs ≡ n → length ys ≡ n → ((k : ℕ) → k < n → Good (get_or xs k d)) → ((k : ℕ) → k < n → Good (get_or ys k d))
       → table enc d n xs ≡ table enc d n ys → xs ≡ ys
-  table-injective Good injective xs ys lx ly gx gy e = ext_get_or d xs ys (lx ∙ sym ly) (λ k h. one k (omega arith))
+  table_injective Good injective xs ys lx ly gx gy e = ext_get_or d xs ys (lx ∙ sym ly) (λ k h. one k (omega arith))
     where
       one : (k : ℕ) → k < n → get_or xs k d ≡ get_or ys k d
       one k h =
           let x = get_or xs k d in
           let y = get_or ys k d in
-          let held : Holds (table enc d n xs) 0 (table enc d n ys) = rw e (holds-self (table enc d n ys)) in
+          let held : Holds (table enc d n xs) 0 (table enc d n ys) = rw e (holds_self (table enc d n ys)) in
           injective x y (gx k h) (gy k h)
           (holds_same (table enc d n xs) (enc x) (enc y) (0 + k * w) (wide x ∙ sym (wide y))
-          (table-holds (table enc d n xs) 0 k xs h (holds-self (table enc d n xs)))
+          (table-holds (table enc d n xs) 0 k xs h (holds_self (table enc d n xs)))
           (table-holds (table enc d n xs) 0 k ys h held))

@@ -31,8 +31,8 @@ be16 = bytes_of 2
 abbrev pub be32 : ℕ → List ℕ
 be32 = bytes_of 4
 
-abbrev pub u16At : List ℕ → ℕ → ℕ
-u16At = number_at 2
+abbrev pub u16_at : List ℕ → ℕ → ℕ
+u16_at = number_at 2
 
 abbrev pub u32_at : List ℕ → ℕ → ℕ
 u32_at = number_at 4

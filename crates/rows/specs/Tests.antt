@@ -7,5 +7,5 @@ all zero f = true
 all (suc n) f = all n f && f n
 
 -- the n bytes from o on are zero, as those past the end are: "unused room is zero"
-unfoldable pub allZero : List ℕ → ℕ → ℕ → Bool
-allZero l o n = all n (λ k. eqb (get_or l (o + k) 0) 0)
+unfoldable pub all_zero : List ℕ → ℕ → ℕ → Bool
+all_zero l o n = all n (λ k. eqb (get_or l (o + k) 0) 0)

@@ -1,8 +1,8 @@
 // Numbers high byte first and rows of equal width in a lent slice. Every function is total: past the end a slice reads zero, and a
 // write that does not fit wholly writes nothing. Document 01, "The world" and "Sheets and the printed record".
 ghost use Rattle.std.specs.Prelude.{◌≡◌, [], ◌∷◌, ◌+◌, ◌≤◌, min, leb, length, get_or};
-ghost use Rattle.rows.specs.Bytes.{placed, bytes_of, fields_of, sum, be16, u16At, u32_at, zeros};
-ghost use Rattle.rows.specs.Tests.{allZero};
+ghost use Rattle.rows.specs.Bytes.{placed, bytes_of, fields_of, sum, be16, u16_at, u32_at, zeros};
+ghost use Rattle.rows.specs.Tests.{all_zero};
 
 // Room for n bytes at `at`; the sum itself could pass the largest usize.
 pub fn has_room(len: usize, at: usize, n: usize) -> bool
@@ -114,7 +114,7 @@ pub fn put_fields(s: &mut [u8], at: usize, widths: &[u8], xs: &[u32])
 }
 
 pub fn read_u16(s: &[u8], at: usize) -> u16
-    ensures { result ≡ u16At s.now at }
+    ensures { result ≡ u16_at s.now at }
 {
     if s.len() <= at {
         return 0;
@@ -141,13 +141,13 @@ pub fn read_u32(s: &[u8], at: usize) -> u32
 // Eight bytes, in one test.
 fn zero_eight(s: &[u8], at: usize) -> bool
     requires { at + 8 ≤ length s.now }
-    ensures { result ≡ allZero s.now at 8 }
+    ensures { result ≡ all_zero s.now at 8 }
 {
     (s[at] | s[at + 1] | s[at + 2] | s[at + 3] | s[at + 4] | s[at + 5] | s[at + 6] | s[at + 7]) == 0
 }
 
 pub fn is_zero(s: &[u8], at: usize, n: usize) -> bool
-    ensures { result ≡ allZero s.now at n }
+    ensures { result ≡ all_zero s.now at n }
 {
     if s.len() <= at {
         return true;

@@ -6,23 +6,23 @@ use Prim.Native.Nat.{ℕ, zero, suc, ◌+◌}
 use native.Mathlib.Omega.{arith}
 use lib.ListN.{length, get_or, set}
 use Rattle.views.proofs.Truth.{cases}
-use Rattle.rules.specs.Sets.{◌&&◌, if◌then◌else◌, allHold, all, those}
-use Rattle.rules.specs.Generators.{oneIf}
+use Rattle.rules.specs.Sets.{◌&&◌, if◌then◌else◌, all_hold, all, those}
+use Rattle.rules.specs.Generators.{one_if}
 use Rattle.rules.specs.WellFormed.{all_from, distinct}
 
 abbrev pub AllTrue : List Bool → Type 0
 AllTrue [] = Unit {0}
 AllTrue (b ∷ bs) = (b ≡ true) × AllTrue bs
 
-pub hold-facts : (bs : List Bool) → allHold bs ≡ true → AllTrue bs
-unfolding allHold
-hold-facts [] e = tt
-hold-facts (b ∷ bs) e = let h = (and-eq-true_iff b (allHold bs)).0 e in (h.0, hold-facts bs h.1)
+pub hold_facts : (bs : List Bool) → all_hold bs ≡ true → AllTrue bs
+unfolding all_hold
+hold_facts [] e = tt
+hold_facts (b ∷ bs) e = let h = (and-eq-true_iff b (all_hold bs)).0 e in (h.0, hold_facts bs h.1)
 
-pub hold-tests : (bs : List Bool) → AllTrue bs → allHold bs ≡ true
-unfolding allHold
-hold-tests [] h = refl
-hold-tests (b ∷ bs) h = (and-eq-true_iff b (allHold bs)).1 (h.0, hold-tests bs h.1)
+pub hold_tests : (bs : List Bool) → AllTrue bs → all_hold bs ≡ true
+unfolding all_hold
+hold_tests [] h = refl
+hold_tests (b ∷ bs) h = (and-eq-true_iff b (all_hold bs)).1 (h.0, hold_tests bs h.1)
 
 -- ---- a test over a list: nothing to test, and the first and the rest
 
@@ -59,9 +59,9 @@ module _ {A : Type 0} (f : A → Bool) where
   unfolding all
   all_none = refl
 
-  pub all-parts : (x : A) (xs : List A) → all f (x ∷ xs) ≡ true → (f x ≡ true) × (all f xs ≡ true)
+  pub all_parts : (x : A) (xs : List A) → all f (x ∷ xs) ≡ true → (f x ≡ true) × (all f xs ≡ true)
   unfolding all
-  all-parts x xs e = (and-eq-true_iff (f x) (all f xs)).0 e
+  all_parts x xs e = (and-eq-true_iff (f x) (all f xs)).0 e
 
   pub all_more : (x : A) (xs : List A) → f x ≡ true → all f xs ≡ true → all f (x ∷ xs) ≡ true
   unfolding all
@@ -69,32 +69,32 @@ module _ {A : Type 0} (f : A → Bool) where
 
   pub all_set : (l : List A) (i : ℕ) (x : A) → all f l ≡ true → f x ≡ true → all f (set l i x) ≡ true
   all_set [] i x h p = h
-  all_set (y ∷ ys) zero x h p = all_more x ys p (all-parts y ys h).1
-  all_set (y ∷ ys) (suc i) x h p = let k = all-parts y ys h in all_more y (set ys i x) k.0 (all_set ys i x k.1 p)
+  all_set (y ∷ ys) zero x h p = all_more x ys p (all_parts y ys h).1
+  all_set (y ∷ ys) (suc i) x h p = let k = all_parts y ys h in all_more y (set ys i x) k.0 (all_set ys i x k.1 p)
 
-  pub all-at : (l : List A) (i : ℕ) (d : A) → all f l ≡ true → f d ≡ true → f (get_or l i d) ≡ true
-  all-at [] i d h p = p
-  all-at (y ∷ ys) zero d h p = (all-parts y ys h).0
-  all-at (y ∷ ys) (suc i) d h p = all-at ys i d (all-parts y ys h).1 p
+  pub all_at : (l : List A) (i : ℕ) (d : A) → all f l ≡ true → f d ≡ true → f (get_or l i d) ≡ true
+  all_at [] i d h p = p
+  all_at (y ∷ ys) zero d h p = (all_parts y ys h).0
+  all_at (y ∷ ys) (suc i) d h p = all_at ys i d (all_parts y ys h).1 p
 
   pub all_append : (a b : List A) → all f a ≡ true → all f b ≡ true → all f (a ++ b) ≡ true
   all_append [] b h k = k
-  all_append (x ∷ a) b h k = let e = all-parts x a h in all_more x (a ++ b) e.0 (all_append a b e.1 k)
+  all_append (x ∷ a) b h k = let e = all_parts x a h in all_more x (a ++ b) e.0 (all_append a b e.1 k)
 
   pub all-those : (g : A → Bool) (l : List A) → all f l ≡ true → all f (those g l) ≡ true
   unfolding those
   all-those g [] h = h
   all-those g (y ∷ ys) h =
-      let k = all-parts y ys h in
+      let k = all_parts y ys h in
       let rest : all f (those g ys) ≡ true = all-those g ys k.1 in
       cases (λ (l : List A). all f l ≡ true) (g y) (λ _. all_more y (those g ys) k.0 rest) (λ _. rest)
 
 -- ---- none stands twice
 
 module _ {A : Type 0} (differ : A → A → Bool) where
-  pub distinct-parts : (x : A) (xs : List A) → distinct differ (x ∷ xs) ≡ true → (all (differ x) xs ≡ true) × (distinct differ xs ≡ true)
+  pub distinct_parts : (x : A) (xs : List A) → distinct differ (x ∷ xs) ≡ true → (all (differ x) xs ≡ true) × (distinct differ xs ≡ true)
   unfolding distinct
-  distinct-parts x xs e = (and-eq-true_iff (all (differ x) xs) (distinct differ xs)).0 e
+  distinct_parts x xs e = (and-eq-true_iff (all (differ x) xs) (distinct differ xs)).0 e
 
   pub distinct_more : (x : A) (xs : List A) → all (differ x) xs ≡ true → distinct differ xs ≡ true → distinct differ (x ∷ xs) ≡ true
   unfolding distinct
@@ -104,7 +104,7 @@ module _ {A : Type 0} (differ : A → A → Bool) where
   unfolding those
   distinct-those g [] d = d
   distinct-those g (x ∷ xs) d =
-      let k = distinct-parts x xs d in
+      let k = distinct_parts x xs d in
       let rest : distinct differ (those g xs) ≡ true = distinct-those g xs k.1 in
       cases (λ (l : List A). distinct differ l ≡ true) (g x) (λ _. distinct_more x (those g xs) (all-those (differ x) g xs k.0) rest) (λ _. rest)
 
@@ -115,7 +115,7 @@ module _ {A : Type 0} (same : A → A → Bool) (put : A → List A → List A)
   pub all-put : (f : A → Bool) (x : A) → f x ≡ true → (ys : List A) → all f ys ≡ true → all f (put x ys) ≡ true
   all-put f x p [] a = rw (put-none x) (all_more f x [] p a)
   all-put f x p (y ∷ ys) a =
-      let k = all-parts f y ys a in
+      let k = all_parts f y ys a in
       let r : all f (put x ys) ≡ true = all-put f x p ys k.1 in
       rw (put_some_lem x y ys) (cases (λ (l : List A). all f l ≡ true) (same y x) (λ _. all_more f x ys p k.1) (λ _. all_more f y (put x ys) k.0 r))
 
@@ -124,19 +124,19 @@ module _ {A : Type 0} (same : A → A → Bool) (put : A → List A → List A)
       → (x : A) (ys : List A) → distinct differ ys ≡ true → distinct differ (put x ys) ≡ true
   distinct-put differ apart alike x [] d = rw (put-none x) (distinct_more differ x [] (all_none (differ x)) d)
   distinct-put differ apart alike x (y ∷ ys) d =
-      let k = distinct-parts differ y ys d in
+      let k = distinct_parts differ y ys d in
       let r : distinct differ (put x ys) ≡ true = distinct-put differ apart alike x ys k.1 in
       rw (put_some_lem x y ys)
       (cases (λ (l : List A). distinct differ l ≡ true) (same y x) (λ e. distinct_more differ x ys (alike x y ys e k.0) k.1)
       (λ e. distinct_more differ y (put x ys) (all-put (differ y) x (apart x y e) ys k.0) r))
 
   -- longer by one exactly where none was the same
-  pub put-length : (x : A) (ys : List A) → length (put x ys) ≡ length ys + oneIf (all (λ y. not (same y x)) ys)
+  pub put-length : (x : A) (ys : List A) → length (put x ys) ≡ length ys + one_if (all (λ y. not (same y x)) ys)
   unfolding all
   put-length x [] = rw (put-none x) refl
   put-length x (y ∷ ys) = rw (put_some_lem x y ys) (go (same y x) (put-length x ys))
     where
-      go : (b : Bool) → length (put x ys) ≡ length ys + oneIf (all (λ y. not (same y x)) ys)
-          → length (if b then x ∷ ys else y ∷ put x ys) ≡ length (y ∷ ys) + oneIf (not b && all (λ y. not (same y x)) ys)
+      go : (b : Bool) → length (put x ys) ≡ length ys + one_if (all (λ y. not (same y x)) ys)
+          → length (if b then x ∷ ys else y ∷ put x ys) ≡ length (y ∷ ys) + one_if (not b && all (λ y. not (same y x)) ys)
       go true e = omega arith
       go false e = omega arith

@@ -25,20 +25,20 @@ those-append f (x ∷ a) b = rw (those-append f a b) (go (f x))
     go true = refl
     go false = refl
 
-pub those-fewer : {A : Type 0} (f : A → Bool) (l : List A) → length (those f l) ≤ length l
+pub those_fewer : {A : Type 0} (f : A → Bool) (l : List A) → length (those f l) ≤ length l
 unfolding those
-those-fewer f [] = omega arith
-those-fewer {A} f (x ∷ l) =
-    let h : length (those f l) ≤ length l = those-fewer f l in
+those_fewer f [] = omega arith
+those_fewer {A} f (x ∷ l) =
+    let h : length (those f l) ≤ length l = those_fewer f l in
     cases (λ (k : List A). length k ≤ length (x ∷ l)) (f x) (λ _. omega arith) (λ _. omega arith)
 
-pub none-test : {A : Type 0} (l : List A) → length l ≡ 0 → none l ≡ true
-none-test [] e = refl
-none-test (x ∷ l) e = absurd (omega arith)
+pub none_test : {A : Type 0} (l : List A) → length l ≡ 0 → none l ≡ true
+none_test [] e = refl
+none_test (x ∷ l) e = absurd (omega arith)
 
-pub some-test : {A : Type 0} (l : List A) → 0 < length l → none l ≡ false
-some-test [] h = absurd (omega arith)
-some-test (x ∷ l) h = refl
+pub some_test : {A : Type 0} (l : List A) → 0 < length l → none l ≡ false
+some_test [] h = absurd (omega arith)
+some_test (x ∷ l) h = refl
 
 pub byte-is : (b : Bool) → bool_byte b ≡ (if b then 1 else 0)
 byte-is true = refl

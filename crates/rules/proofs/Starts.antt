@@ -8,17 +8,17 @@ use lib.Dec.{eqb}
 use borrow.Author.Tests.{eqb-true}
 use Rattle.views.proofs.Truth.{either_true}
 use Rattle.rows.specs.Tests as tests
-use Rattle.rows.proofs.All.{all-at}
-use Rattle.rules.specs.Sets.{◌||◌, member, inside, some, above, all, allHold}
-use Rattle.rules.specs.State.{startRelay, startDesk, start}
-use Rattle.rules.specs.WellFormed.{isPair, all_from, distinct, goodGenerators, goodTransfers, goodRelay, goodPhase, goodDesk, goodPlace, wellFormed}
+use Rattle.rows.proofs.All.{all_at}
+use Rattle.rules.specs.Sets.{◌||◌, member, inside, some, above, all, all_hold}
+use Rattle.rules.specs.State.{start_relay, start_desk, start}
+use Rattle.rules.specs.WellFormed.{is_pair, all_from, distinct, good_generators, good_transfers, good_relay, good_phase, good_desk, good_place, well_formed}
 
 -- all 255 starts, computed
-starts : tests.all 256 (λ m. eqb m 0 || wellFormed (start m)) ≡ true
-unfolding tests.all inside some above member all allHold startRelay startDesk start wellFormed goodPlace goodDesk goodPhase goodRelay goodGenerators goodTransfers isPair all_from distinct
+starts : tests.all 256 (λ m. eqb m 0 || well_formed (start m)) ≡ true
+unfolding tests.all inside some above member all all_hold start_relay start_desk start well_formed good_place good_desk good_phase good_relay good_generators good_transfers is_pair all_from distinct
 starts = refl
 
-pub start-good : (mask : ℕ) → 0 < mask → mask < 256 → wellFormed (start mask) ≡ true
-start-good mask p h =
+pub start_good : (mask : ℕ) → 0 < mask → mask < 256 → well_formed (start mask) ≡ true
+start_good mask p h =
     ⊎_elim (λ e. absurd (omega (arith, eqb-true mask 0 e))) (λ e. e)
-    (either_true (eqb mask 0) (wellFormed (start mask)) (all-at 256 mask (λ m. eqb m 0 || wellFormed (start m)) starts h))
+    (either_true (eqb mask 0) (well_formed (start mask)) (all_at 256 mask (λ m. eqb m 0 || well_formed (start m)) starts h))

@@ -11,8 +11,8 @@ use Rattle.views.proofs.Truth.{contrary}
 use Rattle.rules.specs.Sets.{within}
 use Rattle.rules.specs.Stamps.{Pair, sign, compared, greater}
 use Rattle.rules.specs.Steps.{Step}
-use Rattle.rules.specs.History.{reading, writing, Operation, endedIn, toldIn, operations, unfinishedIn, unfinished, openedIn, openViews}
-use Rattle.rules.specs.Demand3.{ended, ◌∈◌, isRead, eventOf, Belongs, returned, latest, Next, first, next, Demand3}
+use Rattle.rules.specs.History.{reading, writing, Operation, ended_in, told_in, operations, unfinished_in, unfinished, opened_in, open_views}
+use Rattle.rules.specs.Demand3.{ended, ◌∈◌, is_read, event_of, Belongs, returned, latest, Next, first, next, Demand3}
 use Rattle.rules.specs.Examples.{recorded}
 use Rattle.rules.specs.Overlap.{READ, WRITE, DELIVER}
 
@@ -29,19 +29,19 @@ abbrev had : Operation
 had = record { desk = 1; task = reading; begun = 6; ended = 8; event = 2; pair = pair }
 
 ops : operations 1 steps ≡ wrote ∷ had ∷ []
-unfolding recorded operations endedIn
+unfolding recorded operations ended_in
 ops = refl
 
-open-writes : unfinished 1 steps ≡ []
-unfolding recorded unfinished unfinishedIn toldIn
-open-writes = refl
+open_writes : unfinished 1 steps ≡ []
+unfolding recorded unfinished unfinished_in told_in
+open_writes = refl
 
-views : openViews 1 steps ≡ 1 ∷ []
-unfolding recorded openViews openedIn
+views : open_views 1 steps ≡ 1 ∷ []
+unfolding recorded open_views opened_in
 views = refl
 
-one-view : (u : ℕ) → u ∈ openViews 1 steps → u ≡ 1
-one-view u m = Memᴰ.eq_of_singleton (rw views at m)
+one_view : (u : ℕ) → u ∈ open_views 1 steps → u ≡ 1
+one_view u m = Memᴰ.eq_of_singleton (rw views at m)
 
 swap : (o : Operation) → o ∈ operations 1 steps → o ∈ (had ∷ wrote ∷ [])
 swap o m = go (Memᴰ.cases_cons (rw ops at m))
@@ -52,7 +52,7 @@ swap o m = go (Memᴰ.cases_cons (rw ops at m))
 
 complete : (o : Operation) → Belongs 1 steps o → o ∈ (had ∷ wrote ∷ [])
 complete o (ended m) = swap o m
-complete o (returned m n r e) = absurd (Memᴰ.not-nil (rw open-writes at m))
+complete o (returned m n r e) = absurd (Memᴰ.not-nil (rw open_writes at m))
 
 back : (o : Operation) → (o ≡ had) ⊎ (o ∈ (wrote ∷ [])) → o ∈ operations 1 steps
 back o (inl e) = rw ops (Memᴰ.tail (Memᴰ.head e))
@@ -71,7 +71,7 @@ last =
       once = λ m. differ (Memᴰ.eq_of_singleton m);
       timely = λ p m b. let e : p.begun ≡ 1 = ap (λ (o : Operation). o.begun) (Memᴰ.eq_of_singleton m) in omega (arith, b.1);
       returns = λ r. refl;
-      wrote = λ x e. absurd (true≢false (ap isRead e));
+      wrote = λ x e. absurd (true≢false (ap is_read e));
       rises = λ p m. ap (λ (o : Operation). greater o.pair.stamp pair.stamp) (Memᴰ.eq_of_singleton m);
     }
 
@@ -86,14 +86,14 @@ only =
       rises = λ p m. absurd (Memᴰ.not-nil m);
     }
 
-pub demand3-worked : Demand3 1 steps
-demand3-worked =
+pub demand3_worked : Demand3 1 steps
+demand3_worked =
     record {
-      nested = λ u v mu mv. inl (both_one u v (one-view u mu) (one-view v mv));
+      nested = λ u v mu mv. inl (both_one u v (one_view u mu) (one_view v mv));
       lasted = λ o m. lasted o (Memᴰ.cases_cons (rw ops at m));
       events = λ o m. events o (Memᴰ.cases_cons (rw ops at m));
       single = λ o p m n d b. single o p (Memᴰ.cases_cons (rw ops at m)) (Memᴰ.cases_cons (rw ops at n)) d;
-      over = λ o p m n d b. Memᴰ.not-nil (rw open-writes at n);
+      over = λ o p m n d b. Memᴰ.not-nil (rw open_writes at n);
       order = had ∷ wrote ∷ [];
       complete = complete;
       sound = λ o m. ended (back o (Memᴰ.cases_cons m));
@@ -104,7 +104,7 @@ demand3-worked =
     lasted o (inl e) = rw e (lit< tt, lit< tt)
     lasted o (inr h) = rw (Memᴰ.eq_of_singleton h) (lit< tt, lit< tt)
 
-    events : (o : Operation) → (o ≡ wrote) ⊎ (o ∈ (had ∷ [])) → o.event ≡ eventOf o.task
+    events : (o : Operation) → (o ≡ wrote) ⊎ (o ∈ (had ∷ [])) → o.event ≡ event_of o.task
     events o (inl e) = rw e
     events o (inr h) = rw (Memᴰ.eq_of_singleton h)
 

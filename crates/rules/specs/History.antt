@@ -1,10 +1,10 @@
 -- What a run did that everybody can see: the operations of the desks, and the views that opened. Assumes nothing.
 use Rattle.std.specs.Prelude.{List, [], ◌∷◌, ◌++◌, ℕ, suc, get_or, set, replicate}
 use Rattle.rules.specs.Stamps.{Value, Pair}
-use Rattle.rules.specs.Messages.{Event, nothing, opened, readDone, writeDone}
+use Rattle.rules.specs.Messages.{Event, nothing, opened, read_done, write_done}
 use Rattle.rules.specs.State.{Phase, Idle, Read1, Read2, Write1, Write2, Desk, start}
 use Rattle.rules.specs.Steps.{Step, Act, join, leave, timer, read, write, deliver, drop, crash, bad, told, Outcome, refusal, done, report}
-use Rattle.rules.specs.Runs.{outcomes, lastWorld}
+use Rattle.rules.specs.Runs.{outcomes, last_world}
 
 -- what a desk was told
 pub data Task : Type 0 where
@@ -29,8 +29,8 @@ pub record Told : Type 0 where
 abbrev pub nobody : List Told
 nobody = replicate 4 (record { task = reading; begun = 0 })
 
-abbrev pub toldAt : List Told → ℕ → Told
-toldAt ts n = get_or ts n (record { task = reading; begun = 0 })
+abbrev pub told_at : List Told → ℕ → Told
+told_at ts n = get_or ts n (record { task = reading; begun = 0 })
 
 -- an accepted READ or WRITE begins an operation
 abbrev pub begin : ℕ → List Told → Act → List Told
@@ -50,54 +50,54 @@ began i ts k (done w e a b c) = begin i ts (told k)
 
 -- events 2 and 3 end the one that the desk was last told, whichever that was: that it was a read or a write is Demand3's to say
 abbrev pub operation : List Told → ℕ → ℕ → ℕ → Pair → Operation
-operation ts n ended event p = record { desk = n; task = (toldAt ts n).task; begun = (toldAt ts n).begun; ended = ended; event = event; pair = p }
+operation ts n ended event p = record { desk = n; task = (told_at ts n).task; begun = (told_at ts n).begun; ended = ended; event = event; pair = p }
 
-abbrev pub endedBy : ℕ → List Told → Event → ℕ → List Operation
-endedBy i ts nothing n = []
-endedBy i ts (opened v) n = []
-endedBy i ts (readDone p) n = operation ts n i 2 p ∷ []
-endedBy i ts (writeDone p) n = operation ts n i 3 p ∷ []
+abbrev pub ended_by : ℕ → List Told → Event → ℕ → List Operation
+ended_by i ts nothing n = []
+ended_by i ts (opened v) n = []
+ended_by i ts (read_done p) n = operation ts n i 2 p ∷ []
+ended_by i ts (write_done p) n = operation ts n i 3 p ∷ []
 
 -- the operations that ended, oldest first, from the step numbered i on
-unfoldable pub endedIn : ℕ → List Told → List Step → List Outcome → List Operation
-endedIn i ts [] os = []
-endedIn i ts (k ∷ ks) [] = []
-endedIn i ts (k ∷ ks) (o ∷ os) = endedBy i ts (report o).event (report o).who ++ endedIn (suc i) (began i ts k o) ks os
+unfoldable pub ended_in : ℕ → List Told → List Step → List Outcome → List Operation
+ended_in i ts [] os = []
+ended_in i ts (k ∷ ks) [] = []
+ended_in i ts (k ∷ ks) (o ∷ os) = ended_by i ts (report o).event (report o).who ++ ended_in (suc i) (began i ts k o) ks os
 
-unfoldable pub toldIn : ℕ → List Told → List Step → List Outcome → List Told
-toldIn i ts [] os = ts
-toldIn i ts (k ∷ ks) [] = ts
-toldIn i ts (k ∷ ks) (o ∷ os) = toldIn (suc i) (began i ts k o) ks os
+unfoldable pub told_in : ℕ → List Told → List Step → List Outcome → List Told
+told_in i ts [] os = ts
+told_in i ts (k ∷ ks) [] = ts
+told_in i ts (k ∷ ks) (o ∷ os) = told_in (suc i) (began i ts k o) ks os
 
 unfoldable pub operations : ℕ → List Step → List Operation
-operations mask ks = endedIn 1 nobody ks (outcomes (start mask) ks)
+operations mask ks = ended_in 1 nobody ks (outcomes (start mask) ks)
 
 -- the unfinished writes that have a stamp: those of the desks that the run leaves in write 2, crashed or not
-abbrev pub unfinishedBy : List Told → ℕ → Phase → Pair → List Operation
-unfinishedBy ts n Idle p = []
-unfinishedBy ts n Read1 p = []
-unfinishedBy ts n Read2 p = []
-unfinishedBy ts n Write1 p = []
-unfinishedBy ts n Write2 p = operation ts n 0 0 p ∷ []
+abbrev pub unfinished_by : List Told → ℕ → Phase → Pair → List Operation
+unfinished_by ts n Idle p = []
+unfinished_by ts n Read1 p = []
+unfinished_by ts n Read2 p = []
+unfinished_by ts n Write1 p = []
+unfinished_by ts n Write2 p = operation ts n 0 0 p ∷ []
 
-unfoldable pub unfinishedIn : List Told → ℕ → List Desk → List Operation
-unfinishedIn ts n [] = []
-unfinishedIn ts n (d ∷ ds) = unfinishedBy ts n d.phase d.holds ++ unfinishedIn ts (suc n) ds
+unfoldable pub unfinished_in : List Told → ℕ → List Desk → List Operation
+unfinished_in ts n [] = []
+unfinished_in ts n (d ∷ ds) = unfinished_by ts n d.phase d.holds ++ unfinished_in ts (suc n) ds
 
 unfoldable pub unfinished : ℕ → List Step → List Operation
-unfinished mask ks = unfinishedIn (toldIn 1 nobody ks (outcomes (start mask) ks)) 0 (lastWorld (start mask) ks).desks
+unfinished mask ks = unfinished_in (told_in 1 nobody ks (outcomes (start mask) ks)) 0 (last_world (start mask) ks).desks
 
--- the views that opened, as the run tells it: the start's, and those of event 1 (of the views that relays entered, told or not: `one-chain` in
+-- the views that opened, as the run tells it: the start's, and those of event 1 (of the views that relays entered, told or not: `one_chain` in
 -- safety/proofs/Corollaries)
-abbrev pub openedBy : Event → List ℕ
-openedBy nothing = []
-openedBy (opened v) = v ∷ []
-openedBy (readDone p) = []
-openedBy (writeDone p) = []
+abbrev pub opened_by : Event → List ℕ
+opened_by nothing = []
+opened_by (opened v) = v ∷ []
+opened_by (read_done p) = []
+opened_by (write_done p) = []
 
-unfoldable pub openedIn : List Outcome → List ℕ
-openedIn [] = []
-openedIn (o ∷ os) = openedBy (report o).event ++ openedIn os
+unfoldable pub opened_in : List Outcome → List ℕ
+opened_in [] = []
+opened_in (o ∷ os) = opened_by (report o).event ++ opened_in os
 
-unfoldable pub openViews : ℕ → List Step → List ℕ
-openViews mask ks = mask ∷ openedIn (outcomes (start mask) ks)
+unfoldable pub open_views : ℕ → List Step → List ℕ
+open_views mask ks = mask ∷ opened_in (outcomes (start mask) ks)

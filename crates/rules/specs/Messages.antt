@@ -19,8 +19,8 @@ pub data Body : Type 0 where
   get : (try c : ℕ) → Body
   put : (try c : ℕ) (p : Pair) → Body
   -- replies to that try: "reply with the own view", "replies stamp and value", "acknowledges"
-  viewReply : (try v : ℕ) → Body
-  pairReply : (try : ℕ) (p : Pair) → Body
+  view_reply : (try v : ℕ) → Body
+  pair_reply : (try : ℕ) (p : Pair) → Body
   ack : (try : ℕ) → Body
 
 -- sender and receiver: 0..7 relays, 8..11 desks
@@ -34,14 +34,14 @@ pub record Sending : Type 0 where
   pub body : Body
   pub receivers : ℕ
 
-abbrev pub toMembers : ℕ → Body → Sending
-toMembers v b = record { body = b; receivers = members v }
+abbrev pub to_members : ℕ → Body → Sending
+to_members v b = record { body = b; receivers = members v }
 
-abbrev pub toBoth : ℕ → ℕ → Body → Sending
-toBoth v w b = record { body = b; receivers = joined (members v) (members w) }
+abbrev pub to_both : ℕ → ℕ → Body → Sending
+to_both v w b = record { body = b; receivers = joined (members v) (members w) }
 
-abbrev pub toOne : ℕ → Body → Sending
-toOne s b = record { body = b; receivers = only s }
+abbrev pub to_one : ℕ → Body → Sending
+to_one s b = record { body = b; receivers = only s }
 
 -- "in the order in which the rules name them, each to its receivers in ascending order"
 unfoldable pub copies : ℕ → Sending → List Message
@@ -57,8 +57,8 @@ outgoing from (s ∷ ss) = copies from s ++ outgoing from ss
 pub data Event : Type 0 where
   nothing : Event
   opened : (v : ℕ) → Event
-  readDone : Pair → Event
-  writeDone : Pair → Event
+  read_done : Pair → Event
+  write_done : Pair → Event
 
 -- the table of answers, 1 to 8 (9, BAD SHEET, is no answer to a step: Sheets)
 pub data Refusal : Type 0 where
@@ -66,7 +66,7 @@ pub data Refusal : Type 0 where
   bad-step : Refusal
   empty : Refusal
   dead : Refusal
-  not-now : Refusal
+  not_now : Refusal
   not_yet : Refusal
   worn : Refusal
   no_room : Refusal
@@ -76,7 +76,7 @@ number bad-world = 1
 number bad-step = 2
 number empty = 3
 number dead = 4
-number not-now = 5
+number not_now = 5
 number not_yet = 6
 number worn = 7
 number no_room = 8

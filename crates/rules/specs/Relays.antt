@@ -1,69 +1,69 @@
 -- "Delivery at a relay", and JOIN, LEAVE, TIMER: each a function of the relay (its number s, its state r) and of what is put to it. Assumes nothing.
 use Rattle.std.specs.Prelude.{Bool, true, false, not, List, [], ◌∷◌, ◌++◌, ℕ, eqb}
 use Rattle.rules.specs.Sets.{if◌then◌else◌, ◌&&◌, ◌||◌, joins, leaves, only, joined, less, member, within, inside, reaches, none, those, beyond}
-use Rattle.rules.specs.Stamps.{Pair, zeroPair, greatest}
-use Rattle.rules.specs.Messages.{Body, request, view, proposal, converged, install, state, get, put, viewReply, pairReply, ack, Sending, toMembers, toOne, opened, not-now, not_yet, Answer, refused, does, quietly, sends}
-use Rattle.rules.specs.State.{Transfer, Relay, withKnown, withPending, withActive, withHolds, withGenerators, withTransfers}
-use Rattle.rules.specs.Generators.{generatorFor, putGenerator, Turn, proposes, proposalHeard, convergedHeard}
+use Rattle.rules.specs.Stamps.{Pair, zero_pair, greatest}
+use Rattle.rules.specs.Messages.{Body, request, view, proposal, converged, install, state, get, put, view_reply, pair_reply, ack, Sending, to_members, to_one, opened, not_now, not_yet, Answer, refused, does, quietly, sends}
+use Rattle.rules.specs.State.{Transfer, Relay, with_known, with_pending, with_active, with_holds, with_generators, with_transfers}
+use Rattle.rules.specs.Generators.{generator_for, put_generator, Turn, proposes, proposal_heard, converged_heard}
 
 -- a rule at the generator for v. "A generator or transfer that a rule notes into, proposes with or keeps an install in is taken if absent, and at no other time."
 -- (Propose leaves a generator alone only where it has an own sequence, so where it is there.)
 abbrev pub turned : Relay → Turn → Relay
-turned r t = withGenerators r (putGenerator t.next r.generators)
+turned r t = with_generators r (put_generator t.next r.generators)
 
-unfoldable pub atGenerator : Relay → Turn → Answer Relay
-atGenerator r t = sends (turned r t) t.sendings
+unfoldable pub at_generator : Relay → Turn → Answer Relay
+at_generator r t = sends (turned r t) t.sendings
 
 -- ---- steps
 
 -- "JOIN is NOT NOW if the relay has entered any view or its join is in its known view; else it sends request(+s, known view) to that view's members."
-unfoldable pub joinAsked : ℕ → Relay → Answer Relay
-joinAsked s r =
+unfoldable pub join_asked : ℕ → Relay → Answer Relay
+join_asked s r =
     if r.entered || within (joins s) r.known
-    then refused not-now
-    else sends r (toMembers r.known (request (joins s) r.known) ∷ [])
+    then refused not_now
+    else sends r (to_members r.known (request (joins s) r.known) ∷ [])
 
 -- "LEAVE is NOT NOW unless it is a member of its view; it sends request(-s, its view) likewise."
-unfoldable pub leaveAsked : ℕ → Relay → Answer Relay
-leaveAsked s r =
+unfoldable pub leave_asked : ℕ → Relay → Answer Relay
+leave_asked s r =
     if member r.view s
-    then sends r (toMembers r.view (request (leaves s) r.view) ∷ [])
-    else refused not-now
+    then sends r (to_members r.view (request (leaves s) r.view) ∷ [])
+    else refused not_now
 
 -- "TIMER is NOT NOW unless active and its view lacks a pending update; it proposes the sequence of one view, its own joined with the pending updates."
-unfoldable pub timerRang : Relay → Answer Relay
-timerRang r =
+unfoldable pub timer_rang : Relay → Answer Relay
+timer_rang r =
     if r.active && not (within r.pending r.view)
-    then atGenerator r (proposes (generatorFor r.view r.generators) (joined r.view r.pending ∷ []))
-    else refused not-now
+    then at_generator r (proposes (generator_for r.view r.generators) (joined r.view r.pending ∷ []))
+    else refused not_now
 
 -- ---- "Request(u, c), from s. Not entered: nothing. Own view c: add u to pending unless in the view. Another own view: send that one to s,"
 
-unfoldable pub requestHeard : Relay → ℕ → ℕ → ℕ → Answer Relay
-requestHeard r from u c =
+unfoldable pub request_heard : Relay → ℕ → ℕ → ℕ → Answer Relay
+request_heard r from u c =
     if not r.entered then quietly r
-    else if eqb r.view c then quietly (if within u r.view then r else withPending r (joined r.pending u))
-    else sends r (toOne from (view r.view) ∷ [])
+    else if eqb r.view c then quietly (if within u r.view then r else with_pending r (joined r.pending u))
+    else sends r (to_one from (view r.view) ∷ [])
 
 -- "who keeps it as known view if the one known is inside it."
 unfoldable pub learns : Relay → ℕ → Relay
-learns r v = if inside r.known v then withKnown r v else r
+learns r v = if inside r.known v then with_known r v else r
 
 -- ---- transfers
 
-unfoldable pub freshTransfer : ℕ → ℕ → Transfer
-freshTransfer o w = record { old = o; new = w; sequence = []; senders = 0; best = zeroPair; gathered = 0 }
+unfoldable pub fresh_transfer : ℕ → ℕ → Transfer
+fresh_transfer o w = record { old = o; new = w; sequence = []; senders = 0; best = zero_pair; gathered = 0 }
 
-abbrev pub isFor : ℕ → ℕ → Transfer → Bool
-isFor o w t = eqb t.old o && eqb t.new w
+abbrev pub is_for : ℕ → ℕ → Transfer → Bool
+is_for o w t = eqb t.old o && eqb t.new w
 
-unfoldable pub transferFor : ℕ → ℕ → List Transfer → Transfer
-transferFor o w [] = freshTransfer o w
-transferFor o w (t ∷ ts) = if isFor o w t then t else transferFor o w ts
+unfoldable pub transfer_for : ℕ → ℕ → List Transfer → Transfer
+transfer_for o w [] = fresh_transfer o w
+transfer_for o w (t ∷ ts) = if is_for o w t then t else transfer_for o w ts
 
-unfoldable pub putTransfer : Transfer → List Transfer → List Transfer
-putTransfer t [] = t ∷ []
-putTransfer t (u ∷ us) = if isFor t.old t.new u then t ∷ us else u ∷ putTransfer t us
+unfoldable pub put_transfer : Transfer → List Transfer → List Transfer
+put_transfer t [] = t ∷ []
+put_transfer t (u ∷ us) = if is_for t.old t.new u then t ∷ us else u ∷ put_transfer t us
 
 -- "the transfer keeps q unless it has one already"
 unfoldable pub keeps : Transfer → List ℕ → Transfer
@@ -103,12 +103,12 @@ unfoldable pub enters : Relay → Transfer → Answer Relay
 enters r t =
     if none (onward t)
     then does (moved r t true) [] (opened t.new)
-    else atGenerator (moved r t false) (proposes (generatorFor t.new r.generators) (onward t))
+    else at_generator (moved r t false) (proposes (generator_for t.new r.generators) (onward t))
 
 -- the transfer t is put back into r, then the entry test
 unfoldable pub tested : Relay → Transfer → Answer Relay
 tested r t =
-    let kept = withTransfers r (putTransfer t r.transfers) in
+    let kept = with_transfers r (put_transfer t r.transfers) in
     if passes t then enters kept t else quietly kept
 
 -- ---- "Install(o, w, q)"
@@ -119,36 +119,36 @@ early s r o = member o s && not (eqb r.view o || inside o r.view)
 
 -- "A member of o, if its view is inside w, stops being active;"
 abbrev pub stopped : ℕ → Relay → ℕ → ℕ → Relay
-stopped s r o w = if member o s && inside r.view w then withActive r false else r
+stopped s r o w = if member o s && inside r.view w then with_active r false else r
 
 -- "in any case it sends state(o, w, stamp, value, pending) to w's members."
 abbrev pub handed : ℕ → Relay → ℕ → ℕ → List Sending
-handed s r o w = if member o s then toMembers w (state o w r.holds r.pending) ∷ [] else []
+handed s r o w = if member o s then to_members w (state o w r.holds r.pending) ∷ [] else []
 
 -- "If its view is inside w and it is a member of w, the transfer keeps q unless it has one already; then the entry test."
-unfoldable pub takesInstall : ℕ → Relay → ℕ → ℕ → List ℕ → Answer Relay
-takesInstall s r o w q =
+unfoldable pub takes_install : ℕ → Relay → ℕ → ℕ → List ℕ → Answer Relay
+takes_install s r o w q =
     if inside r.view w && member w s
-    then tested r (keeps (transferFor o w r.transfers) q)
+    then tested r (keeps (transfer_for o w r.transfers) q)
     else quietly r
 
 -- sendings that the rule names first
-abbrev pub sentFirst : List Sending → Answer Relay → Answer Relay
-sentFirst first (refused x) = refused x
-sentFirst first (does r later e) = does r (first ++ later) e
+abbrev pub sent_first : List Sending → Answer Relay → Answer Relay
+sent_first first (refused x) = refused x
+sent_first first (does r later e) = does r (first ++ later) e
 
-unfoldable pub installHeard : ℕ → Relay → ℕ → ℕ → List ℕ → Answer Relay
-installHeard s r o w q =
+unfoldable pub install_heard : ℕ → Relay → ℕ → ℕ → List ℕ → Answer Relay
+install_heard s r o w q =
     if early s r o
     then refused not_yet
-    else sentFirst (handed s r o w) (takesInstall s (stopped s r o w) o w q)
+    else sent_first (handed s r o w) (takes_install s (stopped s r o w) o w q)
 
 -- ---- "State(o, w, ..): nothing unless the receiver's view is inside w. Else note sender, greatest stamp with its value, updates; then the entry test."
 
-unfoldable pub stateHeard : Relay → ℕ → ℕ → ℕ → Pair → ℕ → Answer Relay
-stateHeard r from o w p updates =
+unfoldable pub state_heard : Relay → ℕ → ℕ → ℕ → Pair → ℕ → Answer Relay
+state_heard r from o w p updates =
     if inside r.view w
-    then tested r (gathers (transferFor o w r.transfers) from p updates)
+    then tested r (gathers (transfer_for o w r.transfers) from p updates)
     else quietly r
 
 -- ---- Get and Put: "NOT YET unless active and c equals the own view or is inside it."
@@ -157,31 +157,31 @@ abbrev pub serves : Relay → ℕ → Bool
 serves r c = r.active && (eqb c r.view || inside c r.view)
 
 -- "If inside: reply with the own view. If equal:" the relay is `next` afterwards, and `reply` goes out
-abbrev pub servedBy : Relay → Relay → ℕ → ℕ → ℕ → Body → Answer Relay
-servedBy r next from try c reply =
+abbrev pub served_by : Relay → Relay → ℕ → ℕ → ℕ → Body → Answer Relay
+served_by r next from try c reply =
     if not (serves r c) then refused not_yet
-    else if inside c r.view then sends r (toOne from (viewReply try r.view) ∷ [])
-    else sends next (toOne from reply ∷ [])
+    else if inside c r.view then sends r (to_one from (view_reply try r.view) ∷ [])
+    else sends next (to_one from reply ∷ [])
 
 -- "Get replies stamp and value;"
-unfoldable pub getHeard : Relay → ℕ → ℕ → ℕ → Answer Relay
-getHeard r from try c = servedBy r r from try c (pairReply try r.holds)
+unfoldable pub get_heard : Relay → ℕ → ℕ → ℕ → Answer Relay
+get_heard r from try c = served_by r r from try c (pair_reply try r.holds)
 
 -- "Put stores if its stamp is greater, and acknowledges either way."
-unfoldable pub putHeard : Relay → ℕ → ℕ → ℕ → Pair → Answer Relay
-putHeard r from try c p = servedBy r (withHolds r (greatest r.holds p)) from try c (ack try)
+unfoldable pub put_heard : Relay → ℕ → ℕ → ℕ → Pair → Answer Relay
+put_heard r from try c p = served_by r (with_holds r (greatest r.holds p)) from try c (ack try)
 
 -- ---- a message from `from` comes to the relay s. (Replies go to desks only.)
 
-unfoldable pub relayHears : ℕ → Relay → ℕ → Body → Answer Relay
-relayHears s r from (request u c) = requestHeard r from u c
-relayHears s r from (view v) = quietly (learns r v)
-relayHears s r from (proposal v q) = atGenerator r (proposalHeard (generatorFor v r.generators) from q)
-relayHears s r from (converged v q) = atGenerator r (convergedHeard (generatorFor v r.generators) from q)
-relayHears s r from (install o w q) = installHeard s r o w q
-relayHears s r from (state o w p updates) = stateHeard r from o w p updates
-relayHears s r from (get try c) = getHeard r from try c
-relayHears s r from (put try c p) = putHeard r from try c p
-relayHears s r from (viewReply try v) = quietly r
-relayHears s r from (pairReply try p) = quietly r
-relayHears s r from (ack try) = quietly r
+unfoldable pub relay_hears : ℕ → Relay → ℕ → Body → Answer Relay
+relay_hears s r from (request u c) = request_heard r from u c
+relay_hears s r from (view v) = quietly (learns r v)
+relay_hears s r from (proposal v q) = at_generator r (proposal_heard (generator_for v r.generators) from q)
+relay_hears s r from (converged v q) = at_generator r (converged_heard (generator_for v r.generators) from q)
+relay_hears s r from (install o w q) = install_heard s r o w q
+relay_hears s r from (state o w p updates) = state_heard r from o w p updates
+relay_hears s r from (get try c) = get_heard r from try c
+relay_hears s r from (put try c p) = put_heard r from try c p
+relay_hears s r from (view_reply try v) = quietly r
+relay_hears s r from (pair_reply try p) = quietly r
+relay_hears s r from (ack try) = quietly r

@@ -1,11 +1,11 @@
 -- A run of a list of steps from a start, and the printed record. Assumes nothing.
 use Rattle.std.specs.Prelude.{List, [], ◌∷◌, ◌++◌, ℕ, zero, suc, ◌+◌, ◌*◌, ◌/◌, ◌%◌, ltb, length}
 use Rattle.rules.specs.Sets.{if◌then◌else◌}
-use Rattle.rules.specs.Messages.{Event, nothing, opened, readDone, writeDone, number}
+use Rattle.rules.specs.Messages.{Event, nothing, opened, read_done, write_done, number}
 use Rattle.rules.specs.State.{World, start}
-use Rattle.rules.specs.Sending.{waitingIn}
+use Rattle.rules.specs.Sending.{waiting_in}
 use Rattle.rules.specs.Steps.{Step, Outcome, refusal, done, after, report, stepped}
-use Rattle.rules.specs.Sheets.{Sheet, bad, sheet, sheetIn}
+use Rattle.rules.specs.Sheets.{Sheet, bad, sheet, sheet_in}
 
 -- the outcome of each step, each from the world that the one before left
 unfoldable pub outcomes : World → List Step → List Outcome
@@ -13,23 +13,23 @@ outcomes w [] = []
 outcomes w (k ∷ ks) = let o = stepped w k in o ∷ outcomes (after w o) ks
 
 -- the last world
-unfoldable pub lastWorld : World → List Step → World
-lastWorld w [] = w
-lastWorld w (k ∷ ks) = lastWorld (after w (stepped w k)) ks
+unfoldable pub last_world : World → List Step → World
+last_world w [] = w
+last_world w (k ∷ ks) = last_world (after w (stepped w k)) ks
 
 -- ---- the counts: "The first three are counted from the accepted steps, waiting from the last world"
 
-abbrev pub sentBy : Outcome → ℕ
-sentBy (refusal x) = 0
-sentBy (done w e a b c) = a
+abbrev pub sent_by : Outcome → ℕ
+sent_by (refusal x) = 0
+sent_by (done w e a b c) = a
 
-abbrev pub deliveredBy : Outcome → ℕ
-deliveredBy (refusal x) = 0
-deliveredBy (done w e a b c) = b
+abbrev pub delivered_by : Outcome → ℕ
+delivered_by (refusal x) = 0
+delivered_by (done w e a b c) = b
 
-abbrev pub droppedBy : Outcome → ℕ
-droppedBy (refusal x) = 0
-droppedBy (done w e a b c) = c
+abbrev pub dropped_by : Outcome → ℕ
+dropped_by (refusal x) = 0
+dropped_by (done w e a b c) = c
 
 unfoldable pub sum : (Outcome → ℕ) → List Outcome → ℕ
 sum f [] = 0
@@ -55,11 +55,11 @@ line (n ∷ m ∷ ns) = decimal n ++ (32 ∷ line (m ∷ ns))
 abbrev pub start_word : List ℕ
 start_word = 115 ∷ 116 ∷ 97 ∷ 114 ∷ 116 ∷ 32 ∷ []
 
-abbrev pub end-word : List ℕ
-end-word = 101 ∷ 110 ∷ 100 ∷ 32 ∷ []
+abbrev pub end_word : List ℕ
+end_word = 101 ∷ 110 ∷ 100 ∷ 32 ∷ []
 
-abbrev pub bad-word : List ℕ
-bad-word = 98 ∷ 97 ∷ 100 ∷ 32 ∷ []
+abbrev pub bad_word : List ℕ
+bad_word = 98 ∷ 97 ∷ 100 ∷ 32 ∷ []
 
 -- "answer"
 abbrev pub answer : Outcome → ℕ
@@ -70,16 +70,16 @@ answer (done w e a b c) = 0
 abbrev pub fields : Event → ℕ → List ℕ
 fields nothing who = 0 ∷ 0 ∷ 0 ∷ 0 ∷ 0 ∷ []
 fields (opened v) who = 1 ∷ who ∷ 0 ∷ 0 ∷ v ∷ []
-fields (readDone p) who = 2 ∷ who ∷ p.stamp.count ∷ p.stamp.desk ∷ p.value ∷ []
-fields (writeDone p) who = 3 ∷ who ∷ p.stamp.count ∷ p.stamp.desk ∷ p.value ∷ []
+fields (read_done p) who = 2 ∷ who ∷ p.stamp.count ∷ p.stamp.desk ∷ p.value ∷ []
+fields (write_done p) who = 3 ∷ who ∷ p.stamp.count ∷ p.stamp.desk ∷ p.value ∷ []
 
 -- "a line a step: number from 1, answer, event, who, .."
-abbrev pub stepLine : ℕ → Outcome → List ℕ
-stepLine i o = line (i ∷ answer o ∷ fields (report o).event (report o).who)
+abbrev pub step_line : ℕ → Outcome → List ℕ
+step_line i o = line (i ∷ answer o ∷ fields (report o).event (report o).who)
 
-unfoldable pub stepLines : ℕ → List Outcome → List ℕ
-stepLines i [] = []
-stepLines i (o ∷ os) = stepLine i o ++ stepLines (suc i) os
+unfoldable pub step_lines : ℕ → List Outcome → List ℕ
+step_lines i [] = []
+step_lines i (o ∷ os) = step_line i o ++ step_lines (suc i) os
 
 -- "`start` and the mask"
 abbrev pub start_of : ℕ → List ℕ
@@ -87,33 +87,33 @@ start_of mask = start_word ++ line (mask ∷ [])
 
 -- "last `end` with messages sent, delivered, dropped, waiting"
 abbrev pub end_of : ℕ → ℕ → ℕ → ℕ → List ℕ
-end_of sent delivered dropped waiting = end-word ++ line (sent ∷ delivered ∷ dropped ∷ waiting ∷ [])
+end_of sent delivered dropped waiting = end_word ++ line (sent ∷ delivered ∷ dropped ∷ waiting ∷ [])
 
 unfoldable pub printed : ℕ → List Step → List ℕ
 printed mask ks =
     let os = outcomes (start mask) ks in
-    start_of mask ++ (stepLines 1 os ++ end_of (sum sentBy os) (sum deliveredBy os) (sum droppedBy os) (waitingIn (lastWorld (start mask) ks).places))
+    start_of mask ++ (step_lines 1 os ++ end_of (sum sent_by os) (sum delivered_by os) (sum dropped_by os) (waiting_in (last_world (start mask) ks).places))
 
 -- ---- how long the record of n steps can be: every column at its greatest
 
 -- of a sheet's steps, answers, events, relays, stamps and values
-abbrev pub widestStep : List ℕ
-widestStep = line (8000 ∷ 8 ∷ 3 ∷ 7 ∷ 65535 ∷ 3 ∷ 4294967295 ∷ [])
+abbrev pub widest_step : List ℕ
+widest_step = line (8000 ∷ 8 ∷ 3 ∷ 7 ∷ 65535 ∷ 3 ∷ 4294967295 ∷ [])
 
 -- 8,000 steps deliver or drop no more than 8,000 messages; 256 places wait
-abbrev pub widestEnd : List ℕ
-widestEnd = end_of 8256 8000 8000 256
+abbrev pub widest_end : List ℕ
+widest_end = end_of 8256 8000 8000 256
 
 unfoldable pub longest : ℕ → ℕ
-longest n = length (start_of 255) + (n * length widestStep + length widestEnd)
+longest n = length (start_of 255) + (n * length widest_step + length widest_end)
 
 -- "For BAD SHEET it prints `bad 9` only."
-abbrev pub badOf : List ℕ
-badOf = bad-word ++ line (9 ∷ [])
+abbrev pub bad_of : List ℕ
+bad_of = bad_word ++ line (9 ∷ [])
 
 abbrev pub rehearsal : Sheet → List ℕ
-rehearsal bad = badOf
+rehearsal bad = bad_of
 rehearsal (sheet mask ks) = printed mask ks
 
 unfoldable pub rehearsed : List ℕ → List ℕ
-rehearsed b = rehearsal (sheetIn b)
+rehearsed b = rehearsal (sheet_in b)

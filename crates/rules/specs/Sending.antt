@@ -9,17 +9,17 @@ place m [] = []
 place m (free ∷ ps) = waiting m ∷ ps
 place m (waiting x ∷ ps) = waiting x ∷ place m ps
 
-unfoldable pub placeAll : List Message → List Place → List Place
-placeAll [] ps = ps
-placeAll (m ∷ ms) ps = placeAll ms (place m ps)
+unfoldable pub place_all : List Message → List Place → List Place
+place_all [] ps = ps
+place_all (m ∷ ms) ps = place_all ms (place m ps)
 
 -- how many are free, and how many hold a message
-unfoldable pub freeIn : List Place → ℕ
-freeIn [] = 0
-freeIn (free ∷ ps) = suc (freeIn ps)
-freeIn (waiting m ∷ ps) = freeIn ps
+unfoldable pub free_in : List Place → ℕ
+free_in [] = 0
+free_in (free ∷ ps) = suc (free_in ps)
+free_in (waiting m ∷ ps) = free_in ps
 
-unfoldable pub waitingIn : List Place → ℕ
-waitingIn [] = 0
-waitingIn (free ∷ ps) = waitingIn ps
-waitingIn (waiting m ∷ ps) = suc (waitingIn ps)
+unfoldable pub waiting_in : List Place → ℕ
+waiting_in [] = 0
+waiting_in (free ∷ ps) = waiting_in ps
+waiting_in (waiting m ∷ ps) = suc (waiting_in ps)

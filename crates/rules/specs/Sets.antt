@@ -5,29 +5,29 @@ use Rattle.std.specs.Int.Bits.{bit_and, bit_or}
 pub use Rattle.std.specs.Prelude.{◌&&◌, ◌||◌}
 pub use Rattle.views.specs.Choice.{if◌then◌else◌}
 unfoldable pub use Rattle.views.specs.Choice.{those}
-pub use Rattle.views.specs.View.{bit_of as bit, members_of as members, quorumOf as quorum, withinOf as within}
-unfoldable pub use Rattle.views.specs.View.{memberOf as member, reachesOf as reaches, insideOf as inside, clashOf as clash}
-pub use Rattle.views.specs.Chain.{has_of as has, lacksOf as lacks, conflictOf as conflict, leastOf as least, most_of as most, beyondOf as beyond}
-unfoldable pub use Rattle.views.specs.Chain.{some, sameOf as same, plusOf as plus, unionOf as unite, heardOf as heard, above_of as above}
+pub use Rattle.views.specs.View.{bit_of as bit, members_of as members, quorum_of as quorum, within_of as within}
+unfoldable pub use Rattle.views.specs.View.{member_of as member, reaches_of as reaches, inside_of as inside, clash_of as clash}
+pub use Rattle.views.specs.Chain.{has_of as has, lacks_of as lacks, conflict_of as conflict, least_of as least, most_of as most, beyond_of as beyond}
+unfoldable pub use Rattle.views.specs.Chain.{some, same_of as same, plus_of as plus, union_of as unite, heard_of as heard, above_of as above}
 
 -- how many there are: relays and desks, both together, message places, a relay's generators or transfers, views in a sequence
-abbrev pub relayCount : ℕ
-relayCount = 8
+abbrev pub relay_count : ℕ
+relay_count = 8
 
-abbrev pub deskCount : ℕ
-deskCount = 4
+abbrev pub desk_count : ℕ
+desk_count = 4
 
 abbrev pub everyone : ℕ
-everyone = relayCount + deskCount
+everyone = relay_count + desk_count
 
-abbrev pub placeCount : ℕ
-placeCount = 256
+abbrev pub place_count : ℕ
+place_count = 256
 
-abbrev pub seatCount : ℕ
-seatCount = 8
+abbrev pub seat_count : ℕ
+seat_count = 8
 
-abbrev pub viewCount : ℕ
-viewCount = 15
+abbrev pub view_count : ℕ
+view_count = 15
 
 -- the updates "relay s joined" and "relay s left", +s and -s
 abbrev pub joins : ℕ → ℕ
@@ -58,6 +58,6 @@ all f [] = true
 all f (x ∷ xs) = f x && all f xs
 
 -- each of these conditions holds
-unfoldable pub allHold : List Bool → Bool
-allHold [] = true
-allHold (b ∷ bs) = b && allHold bs
+unfoldable pub all_hold : List Bool → Bool
+all_hold [] = true
+all_hold (b ∷ bs) = b && all_hold bs

@@ -1,7 +1,7 @@
 -- "The world": its parts, and the start. Assumes nothing.
 use Rattle.std.specs.Prelude.{Bool, true, false, List, [], ◌∷◌, map, ℕ, get_or, set, replicate}
 use Rattle.rules.specs.Sets.{if◌then◌else◌, bit}
-use Rattle.rules.specs.Stamps.{Pair, zeroPair}
+use Rattle.rules.specs.Stamps.{Pair, zero_pair}
 use Rattle.rules.specs.Messages.{Message}
 -- "Desk: alive, view, phase (idle, read 1, read 2, write 1, write 2), try 0..65,535, value, stamp, who replied, best reply, whether all stamps agreed."
 -- Declared with the code: `tries` is the try, `holds` its stamp and value.
@@ -53,61 +53,61 @@ pub record World : Type 0 where
 
 -- ---- one part changed, the others as they were
 
-unfoldable pub withKnown : Relay → ℕ → Relay
-withKnown r v = record { alive = r.alive; view = r.view; entered = r.entered; active = r.active; known = v; pending = r.pending; holds = r.holds; generators = r.generators; transfers = r.transfers }
+unfoldable pub with_known : Relay → ℕ → Relay
+with_known r v = record { alive = r.alive; view = r.view; entered = r.entered; active = r.active; known = v; pending = r.pending; holds = r.holds; generators = r.generators; transfers = r.transfers }
 
-unfoldable pub withPending : Relay → ℕ → Relay
-withPending r u = record { alive = r.alive; view = r.view; entered = r.entered; active = r.active; known = r.known; pending = u; holds = r.holds; generators = r.generators; transfers = r.transfers }
+unfoldable pub with_pending : Relay → ℕ → Relay
+with_pending r u = record { alive = r.alive; view = r.view; entered = r.entered; active = r.active; known = r.known; pending = u; holds = r.holds; generators = r.generators; transfers = r.transfers }
 
-unfoldable pub withActive : Relay → Bool → Relay
-withActive r b = record { alive = r.alive; view = r.view; entered = r.entered; active = b; known = r.known; pending = r.pending; holds = r.holds; generators = r.generators; transfers = r.transfers }
+unfoldable pub with_active : Relay → Bool → Relay
+with_active r b = record { alive = r.alive; view = r.view; entered = r.entered; active = b; known = r.known; pending = r.pending; holds = r.holds; generators = r.generators; transfers = r.transfers }
 
-unfoldable pub withHolds : Relay → Pair → Relay
-withHolds r p = record { alive = r.alive; view = r.view; entered = r.entered; active = r.active; known = r.known; pending = r.pending; holds = p; generators = r.generators; transfers = r.transfers }
+unfoldable pub with_holds : Relay → Pair → Relay
+with_holds r p = record { alive = r.alive; view = r.view; entered = r.entered; active = r.active; known = r.known; pending = r.pending; holds = p; generators = r.generators; transfers = r.transfers }
 
-unfoldable pub withGenerators : Relay → List Generator → Relay
-withGenerators r gs = record { alive = r.alive; view = r.view; entered = r.entered; active = r.active; known = r.known; pending = r.pending; holds = r.holds; generators = gs; transfers = r.transfers }
+unfoldable pub with_generators : Relay → List Generator → Relay
+with_generators r gs = record { alive = r.alive; view = r.view; entered = r.entered; active = r.active; known = r.known; pending = r.pending; holds = r.holds; generators = gs; transfers = r.transfers }
 
-unfoldable pub withTransfers : Relay → List Transfer → Relay
-withTransfers r ts = record { alive = r.alive; view = r.view; entered = r.entered; active = r.active; known = r.known; pending = r.pending; holds = r.holds; generators = r.generators; transfers = ts }
+unfoldable pub with_transfers : Relay → List Transfer → Relay
+with_transfers r ts = record { alive = r.alive; view = r.view; entered = r.entered; active = r.active; known = r.known; pending = r.pending; holds = r.holds; generators = r.generators; transfers = ts }
 
-unfoldable pub crashedRelay : Relay → Relay
-crashedRelay r = record { alive = false; view = r.view; entered = r.entered; active = r.active; known = r.known; pending = r.pending; holds = r.holds; generators = r.generators; transfers = r.transfers }
+unfoldable pub crashed_relay : Relay → Relay
+crashed_relay r = record { alive = false; view = r.view; entered = r.entered; active = r.active; known = r.known; pending = r.pending; holds = r.holds; generators = r.generators; transfers = r.transfers }
 
-unfoldable pub crashedDesk : Desk → Desk
-crashedDesk d = record { alive = false; view = d.view; phase = d.phase; tries = d.tries; holds = d.holds; replied = d.replied; best = d.best; agreed = d.agreed }
+unfoldable pub crashed_desk : Desk → Desk
+crashed_desk d = record { alive = false; view = d.view; phase = d.phase; tries = d.tries; holds = d.holds; replied = d.replied; best = d.best; agreed = d.agreed }
 
 -- ---- a part of the world, by its number
 
-abbrev pub noRelay : Relay
-noRelay = record { alive = false; view = 0; entered = false; active = false; known = 0; pending = 0; holds = zeroPair; generators = []; transfers = [] }
+abbrev pub no_relay : Relay
+no_relay = record { alive = false; view = 0; entered = false; active = false; known = 0; pending = 0; holds = zero_pair; generators = []; transfers = [] }
 
-abbrev pub noDesk : Desk
-noDesk = record { alive = false; view = 0; phase = Idle; tries = 0; holds = zeroPair; replied = 0; best = zeroPair; agreed = false }
+abbrev pub no_desk : Desk
+no_desk = record { alive = false; view = 0; phase = Idle; tries = 0; holds = zero_pair; replied = 0; best = zero_pair; agreed = false }
 
-abbrev pub relayAt : World → ℕ → Relay
-relayAt w s = get_or w.relays s noRelay
+abbrev pub relay_at : World → ℕ → Relay
+relay_at w s = get_or w.relays s no_relay
 
-abbrev pub deskAt : World → ℕ → Desk
-deskAt w d = get_or w.desks d noDesk
+abbrev pub desk_at : World → ℕ → Desk
+desk_at w d = get_or w.desks d no_desk
 
-abbrev pub placeAt : World → ℕ → Place
-placeAt w p = get_or w.places p free
+abbrev pub place_at : World → ℕ → Place
+place_at w p = get_or w.places p free
 
-abbrev pub withRelay : World → ℕ → Relay → World
-withRelay w s r = record { relays = set w.relays s r; desks = w.desks; places = w.places }
+abbrev pub with_relay : World → ℕ → Relay → World
+with_relay w s r = record { relays = set w.relays s r; desks = w.desks; places = w.places }
 
-abbrev pub withDesk : World → ℕ → Desk → World
-withDesk w n d = record { relays = w.relays; desks = set w.desks n d; places = w.places }
+abbrev pub with_desk : World → ℕ → Desk → World
+with_desk w n d = record { relays = w.relays; desks = set w.desks n d; places = w.places }
 
-abbrev pub withPlaces : World → List Place → World
-withPlaces w ps = record { relays = w.relays; desks = w.desks; places = ps }
+abbrev pub with_places : World → List Place → World
+with_places w ps = record { relays = w.relays; desks = w.desks; places = ps }
 
 -- ---- the start
 
 -- "All relays and desks know the view of those joins; its relays are entered and active, the others have view 0 and aren't."
-unfoldable pub startRelay : ℕ → ℕ → Relay
-startRelay mask s =
+unfoldable pub start_relay : ℕ → ℕ → Relay
+start_relay mask s =
     record {
       alive = true;
       view = if bit mask s then mask else 0;
@@ -115,19 +115,19 @@ startRelay mask s =
       active = bit mask s;
       known = mask;
       pending = 0;
-      holds = zeroPair;
+      holds = zero_pair;
       generators = [];
       transfers = [];
     }
 
-unfoldable pub startDesk : ℕ → Desk
-startDesk mask = record { alive = true; view = mask; phase = Idle; tries = 0; holds = zeroPair; replied = 0; best = zeroPair; agreed = false }
+unfoldable pub start_desk : ℕ → Desk
+start_desk mask = record { alive = true; view = mask; phase = Idle; tries = 0; holds = zero_pair; replied = 0; best = zero_pair; agreed = false }
 
 -- "Start: a mask 1..255 of relays."; "256 places, all empty at a start"
 unfoldable pub start : ℕ → World
 start mask =
     record {
-      relays = map (startRelay mask) (0 ∷ 1 ∷ 2 ∷ 3 ∷ 4 ∷ 5 ∷ 6 ∷ 7 ∷ []);
-      desks = replicate 4 (startDesk mask);
+      relays = map (start_relay mask) (0 ∷ 1 ∷ 2 ∷ 3 ∷ 4 ∷ 5 ∷ 6 ∷ 7 ∷ []);
+      desks = replicate 4 (start_desk mask);
       places = replicate 256 free;
     }

@@ -1,32 +1,32 @@
 -- When a world is good, as one test: the conditions of "The world", part by part, over clean values. (That its length is right and unused room is zero
 -- is said where a world is read from bytes.) Assumes nothing.
 use Rattle.std.specs.Prelude.{Bool, true, false, not, List, [], ◌∷◌, ℕ, suc, eqb, leb, ltb, length}
-use Rattle.rules.specs.Sets.{◌&&◌, ◌||◌, joins, leaves, member, members, within, inside, above, lacks, least, none, all, allHold}
-use Rattle.rules.specs.Stamps.{Stamp, Pair, is_value, isNoValue}
-use Rattle.rules.specs.Messages.{Body, request, view, proposal, converged, install, state, get, put, viewReply, pairReply, ack, Message}
+use Rattle.rules.specs.Sets.{◌&&◌, ◌||◌, joins, leaves, member, members, within, inside, above, lacks, least, none, all, all_hold}
+use Rattle.rules.specs.Stamps.{Stamp, Pair, is_value, is_no_value}
+use Rattle.rules.specs.Messages.{Body, request, view, proposal, converged, install, state, get, put, view_reply, pair_reply, ack, Message}
 use Rattle.rules.specs.State.{Generator, Transfer, Relay, Phase, Idle, Read1, Read2, Write1, Write2, Desk, Place, free, waiting, World}
-use Rattle.rules.specs.Relays.{isFor}
+use Rattle.rules.specs.Relays.{is_for}
 
 -- ---- "every field is in range"
 
-abbrev pub isView : ℕ → Bool
-isView v = ltb v 65536
+abbrev pub is_view : ℕ → Bool
+is_view v = ltb v 65536
 
-abbrev pub isStamp : Stamp → Bool
-isStamp s = ltb s.count 65536 && ltb s.desk 4
+abbrev pub is_stamp : Stamp → Bool
+is_stamp s = ltb s.count 65536 && ltb s.desk 4
 
-unfoldable pub isPair : Pair → Bool
-isPair p = isStamp p.stamp && is_value p.value
+unfoldable pub is_pair : Pair → Bool
+is_pair p = is_stamp p.stamp && is_value p.value
 
-abbrev pub isZeroPair : Pair → Bool
-isZeroPair p = (eqb p.stamp.count 0 && eqb p.stamp.desk 0) && isNoValue p.value
+abbrev pub is_zero_pair : Pair → Bool
+is_zero_pair p = (eqb p.stamp.count 0 && eqb p.stamp.desk 0) && is_no_value p.value
 
 abbrev pub implies : Bool → Bool → Bool
 implies a b = not a || b
 
-abbrev pub sameBool : Bool → Bool → Bool
-sameBool true b = b
-sameBool false b = not b
+abbrev pub same_bool : Bool → Bool → Bool
+same_bool true b = b
+same_bool false b = not b
 
 -- each passes the test, which is told its number from n on
 unfoldable pub all_from : {A : Type 0} → ℕ → (ℕ → A → Bool) → List A → Bool
@@ -38,104 +38,104 @@ unfoldable pub distinct : {A : Type 0} → (A → A → Bool) → List A → Boo
 distinct differ [] = true
 distinct differ (x ∷ xs) = all (differ x) xs && distinct differ xs
 
-abbrev pub isDesk : ℕ → Bool
-isDesk who = leb 8 who && ltb who 12
+abbrev pub is_desk : ℕ → Bool
+is_desk who = leb 8 who && ltb who 12
 
 -- ---- generators: "sequences are as defined above", "the converged sequence is contained in the own one", "a generator's relay is a member of its view",
 -- "notes come from members only"
 
-abbrev pub goodNote : ℕ → ℕ → List ℕ → Bool
-goodNote v s q = above v q && (none q || member v s)
+abbrev pub good_note : ℕ → ℕ → List ℕ → Bool
+good_note v s q = above v q && (none q || member v s)
 
-abbrev pub goodNotes : ℕ → List (List ℕ) → Bool
-goodNotes v notes = eqb (length notes) 8 && all_from 0 (goodNote v) notes
+abbrev pub good_notes : ℕ → List (List ℕ) → Bool
+good_notes v notes = eqb (length notes) 8 && all_from 0 (good_note v) notes
 
-unfoldable pub goodGenerator : ℕ → Generator → Bool
-goodGenerator s g =
-    allHold (
-    isView g.view
+unfoldable pub good_generator : ℕ → Generator → Bool
+good_generator s g =
+    all_hold (
+    is_view g.view
     ∷ member g.view s
     ∷ above g.view g.own
     ∷ above g.view g.converged
     ∷ above g.view g.raised
     ∷ not (lacks g.converged g.own)
-    ∷ goodNotes g.view g.proposals
-    ∷ goodNotes g.view g.convergences
+    ∷ good_notes g.view g.proposals
+    ∷ good_notes g.view g.convergences
     ∷ [])
 
 -- ---- transfers: a sequence, "an install's or a filled transfer's has its new view as least"; the relay is a member, "a transfer's of its new view";
 -- "old views have members and are inside new ones"
 
 -- an old view and a new one
-unfoldable pub goodMove : ℕ → ℕ → Bool
-goodMove o w = allHold (isView w ∷ not (eqb (members o) 0) ∷ inside o w ∷ [])
+unfoldable pub good_move : ℕ → ℕ → Bool
+good_move o w = all_hold (is_view w ∷ not (eqb (members o) 0) ∷ inside o w ∷ [])
 
 -- an install's sequence
-unfoldable pub goodInstalled : ℕ → ℕ → List ℕ → Bool
-goodInstalled o w q = allHold (not (none q) ∷ above o q ∷ eqb (least q) w ∷ [])
+unfoldable pub good_installed : ℕ → ℕ → List ℕ → Bool
+good_installed o w q = all_hold (not (none q) ∷ above o q ∷ eqb (least q) w ∷ [])
 
-unfoldable pub goodTransfer : ℕ → Transfer → Bool
-goodTransfer s t =
-    allHold (
+unfoldable pub good_transfer : ℕ → Transfer → Bool
+good_transfer s t =
+    all_hold (
     member t.new s
-    ∷ goodMove t.old t.new
-    ∷ (none t.sequence || goodInstalled t.old t.new t.sequence)
+    ∷ good_move t.old t.new
+    ∷ (none t.sequence || good_installed t.old t.new t.sequence)
     ∷ within t.senders (members t.old)
-    ∷ isPair t.best
-    ∷ isView t.gathered
+    ∷ is_pair t.best
+    ∷ is_view t.gathered
     ∷ [])
 
 -- ---- relays: "active implies entered and member, a relay has view 0 exactly when it hasn't entered",
 -- "generator and transfer places name different views or pairs and are filled from the lowest"
 
-abbrev pub otherView : Generator → Generator → Bool
-otherView g h = not (eqb g.view h.view)
+abbrev pub other_view : Generator → Generator → Bool
+other_view g h = not (eqb g.view h.view)
 
-abbrev pub otherMove : Transfer → Transfer → Bool
-otherMove t u = not (isFor u.old u.new t)
+abbrev pub other_move : Transfer → Transfer → Bool
+other_move t u = not (is_for u.old u.new t)
 
-unfoldable pub goodGenerators : ℕ → List Generator → Bool
-goodGenerators s gs = allHold (leb (length gs) 8 ∷ all (goodGenerator s) gs ∷ distinct otherView gs ∷ [])
+unfoldable pub good_generators : ℕ → List Generator → Bool
+good_generators s gs = all_hold (leb (length gs) 8 ∷ all (good_generator s) gs ∷ distinct other_view gs ∷ [])
 
-unfoldable pub goodTransfers : ℕ → List Transfer → Bool
-goodTransfers s ts = allHold (leb (length ts) 8 ∷ all (goodTransfer s) ts ∷ distinct otherMove ts ∷ [])
+unfoldable pub good_transfers : ℕ → List Transfer → Bool
+good_transfers s ts = all_hold (leb (length ts) 8 ∷ all (good_transfer s) ts ∷ distinct other_move ts ∷ [])
 
-unfoldable pub goodRelay : ℕ → Relay → Bool
-goodRelay s r =
-    allHold (
-    isView r.view
-    ∷ isView r.known
-    ∷ isView r.pending
-    ∷ isPair r.holds
+unfoldable pub good_relay : ℕ → Relay → Bool
+good_relay s r =
+    all_hold (
+    is_view r.view
+    ∷ is_view r.known
+    ∷ is_view r.pending
+    ∷ is_pair r.holds
     ∷ implies r.active (r.entered && member r.view s)
-    ∷ sameBool r.entered (not (eqb r.view 0))
-    ∷ goodGenerators s r.generators
-    ∷ goodTransfers s r.transfers
+    ∷ same_bool r.entered (not (eqb r.view 0))
+    ∷ good_generators s r.generators
+    ∷ good_transfers s r.transfers
     ∷ [])
 
 -- ---- desks: "Fields not set since the start or the clearing are zero; an acknowledgement sets only who replied. Idle, only alive, view and try stay."
 
 -- phase 1 has a best reply and whether all agreed, once somebody replied
-abbrev pub goodBest : Desk → Bool
-goodBest d = isPair d.best && implies (eqb d.replied 0) (isZeroPair d.best && not d.agreed)
+abbrev pub good_best : Desk → Bool
+good_best d = is_pair d.best && implies (eqb d.replied 0) (is_zero_pair d.best && not d.agreed)
 
-abbrev pub noBest : Desk → Bool
-noBest d = isZeroPair d.best && not d.agreed
+abbrev pub no_best : Desk → Bool
+no_best d = is_zero_pair d.best && not d.agreed
 
-unfoldable pub goodPhase : Phase → Desk → Bool
-goodPhase Idle d = allHold (isZeroPair d.holds ∷ eqb d.replied 0 ∷ noBest d ∷ [])
-goodPhase Read1 d = allHold (isZeroPair d.holds ∷ goodBest d ∷ [])
-goodPhase Read2 d = allHold (isPair d.holds ∷ noBest d ∷ [])
-goodPhase Write1 d = allHold (isPair d.holds ∷ eqb d.holds.stamp.count 0 ∷ eqb d.holds.stamp.desk 0 ∷ goodBest d ∷ [])
-goodPhase Write2 d = allHold (isPair d.holds ∷ noBest d ∷ [])
+unfoldable pub good_phase : Phase → Desk → Bool
+good_phase Idle d = all_hold (is_zero_pair d.holds ∷ eqb d.replied 0 ∷ no_best d ∷ [])
+good_phase Read1 d = all_hold (is_zero_pair d.holds ∷ good_best d ∷ [])
+good_phase Read2 d = all_hold (is_pair d.holds ∷ no_best d ∷ [])
+good_phase Write1 d = all_hold (is_pair d.holds ∷ eqb d.holds.stamp.count 0 ∷ eqb d.holds.stamp.desk 0 ∷ good_best d ∷ [])
+good_phase Write2 d = all_hold (is_pair d.holds ∷ no_best d ∷ [])
 
-unfoldable pub goodDesk : Desk → Bool
-goodDesk d =
-    allHold (
-    isView d.view
+unfoldable pub good_desk : Desk → Bool
+good_desk d =
+    all_hold (
+    is_view d.view
     ∷ ltb d.tries 65536
     ∷ within d.replied (members d.view)
-    ∷ goodPhase d.phase d
+    ∷ good_phase d.phase d
     ∷ [])
 
 -- ---- messages: of sequences, "no message's is empty"; "each message's sender and receiver are ones that its rule could name"
@@ -146,41 +146,41 @@ between v w m = member v m.from && member w m.to
 
 -- from a desk to a member of the view asked for; from a relay to a desk
 abbrev pub asked : ℕ → Message → Bool
-asked c m = isDesk m.from && member c m.to
+asked c m = is_desk m.from && member c m.to
 
 abbrev pub replied : Message → Bool
-replied m = ltb m.from 8 && isDesk m.to
+replied m = ltb m.from 8 && is_desk m.to
 
 -- +s is not in c, or s is a member of c and asks for -s
-abbrev pub goodRequest : ℕ → ℕ → ℕ → Bool
-goodRequest s u c = eqb u (joins s) && not (within u c) || eqb u (leaves s) && member c s
+abbrev pub good_request : ℕ → ℕ → ℕ → Bool
+good_request s u c = eqb u (joins s) && not (within u c) || eqb u (leaves s) && member c s
 
-unfoldable pub goodBody : Message → Body → Bool
-goodBody m (request u c) = allHold (ltb m.from 8 ∷ isView c ∷ goodRequest m.from u c ∷ member c m.to ∷ [])
-goodBody m (view v) = allHold (ltb m.from 8 ∷ ltb m.to 8 ∷ isView v ∷ not (eqb v 0) ∷ [])
-goodBody m (proposal v q) = allHold (isView v ∷ between v v m ∷ above v q ∷ not (none q) ∷ [])
-goodBody m (converged v q) = allHold (isView v ∷ between v v m ∷ above v q ∷ not (none q) ∷ [])
-goodBody m (install o w q) = allHold (goodMove o w ∷ goodInstalled o w q ∷ (between o o m || between o w m) ∷ [])
-goodBody m (state o w p updates) = allHold (goodMove o w ∷ between o w m ∷ isPair p ∷ isView updates ∷ [])
-goodBody m (get try c) = allHold (ltb try 65536 ∷ isView c ∷ asked c m ∷ [])
-goodBody m (put try c p) = allHold (ltb try 65536 ∷ isView c ∷ asked c m ∷ isPair p ∷ [])
-goodBody m (viewReply try v) = allHold (ltb try 65536 ∷ isView v ∷ replied m ∷ [])
-goodBody m (pairReply try p) = allHold (ltb try 65536 ∷ isPair p ∷ replied m ∷ [])
-goodBody m (ack try) = allHold (ltb try 65536 ∷ replied m ∷ [])
+unfoldable pub good_body : Message → Body → Bool
+good_body m (request u c) = all_hold (ltb m.from 8 ∷ is_view c ∷ good_request m.from u c ∷ member c m.to ∷ [])
+good_body m (view v) = all_hold (ltb m.from 8 ∷ ltb m.to 8 ∷ is_view v ∷ not (eqb v 0) ∷ [])
+good_body m (proposal v q) = all_hold (is_view v ∷ between v v m ∷ above v q ∷ not (none q) ∷ [])
+good_body m (converged v q) = all_hold (is_view v ∷ between v v m ∷ above v q ∷ not (none q) ∷ [])
+good_body m (install o w q) = all_hold (good_move o w ∷ good_installed o w q ∷ (between o o m || between o w m) ∷ [])
+good_body m (state o w p updates) = all_hold (good_move o w ∷ between o w m ∷ is_pair p ∷ is_view updates ∷ [])
+good_body m (get try c) = all_hold (ltb try 65536 ∷ is_view c ∷ asked c m ∷ [])
+good_body m (put try c p) = all_hold (ltb try 65536 ∷ is_view c ∷ asked c m ∷ is_pair p ∷ [])
+good_body m (view_reply try v) = all_hold (ltb try 65536 ∷ is_view v ∷ replied m ∷ [])
+good_body m (pair_reply try p) = all_hold (ltb try 65536 ∷ is_pair p ∷ replied m ∷ [])
+good_body m (ack try) = all_hold (ltb try 65536 ∷ replied m ∷ [])
 
-unfoldable pub goodPlace : Place → Bool
-goodPlace free = true
-goodPlace (waiting m) = goodBody m m.body
+unfoldable pub good_place : Place → Bool
+good_place free = true
+good_place (waiting m) = good_body m m.body
 
 -- ---- a good world
 
-unfoldable pub wellFormed : World → Bool
-wellFormed w =
-    allHold (
+unfoldable pub well_formed : World → Bool
+well_formed w =
+    all_hold (
     eqb (length w.relays) 8
-    ∷ all_from 0 goodRelay w.relays
+    ∷ all_from 0 good_relay w.relays
     ∷ eqb (length w.desks) 4
-    ∷ all goodDesk w.desks
+    ∷ all good_desk w.desks
     ∷ eqb (length w.places) 256
-    ∷ all goodPlace w.places
+    ∷ all good_place w.places
     ∷ [])

@@ -9,15 +9,15 @@ use Prim.Native.Nat.{ℕ}
 use Rattle.rules.specs.Stamps.{Value}
 use Rattle.safety.proofs.Setting.{Setting}
 use Rattle.safety.proofs.Sequences.{◌∈◌, ◌⊆◌, Sequence, Nested, Chain}
-use Rattle.safety.proofs.Votes.{Gathered, given, both, gathered-chain, gathered-nested}
+use Rattle.safety.proofs.Votes.{Gathered, given, both, gathered_chain, gathered-nested}
 use Rattle.safety.proofs.Quorums.{shared, someone}
-use Rattle.safety.proofs.Facts.{History, Opened, at-start, alone, Origin, entry, timer, Arrival, start as start-view, through, Facts}
-use Rattle.safety.proofs.Log.{Log, ◌∋◌, first, own, conv, raise, enter, Active, active-start, active-enter, First, by-timer, by-entry, Merge, clash, joined, OwnFrom, own_first, own-merge, Sound}
-use Rattle.safety.proofs.Past.{Past, now, back, past-has, places, Places, same, earlier, later, here, justified, because, Why, why}
+use Rattle.safety.proofs.Facts.{History, Opened, at_start, alone, Origin, entry, timer, Arrival, start as start-view, through, Facts}
+use Rattle.safety.proofs.Log.{Log, ◌∋◌, first, own, conv, raise, enter, Active, active-start, active_enter, First, by_timer, by_entry, Merge, clash, joined, OwnFrom, own_first, own_merge, Sound}
+use Rattle.safety.proofs.Past.{Past, now, back, past_has, places, Places, same, earlier, later, here, justified, because, Why, why}
 
 pub data Entered (C : Setting) (t : Log) (w : ℕ) : Type 0 where
   from_start : w ≡ C.view → Entered C t w
-  by-relay : {k o s : ℕ} {y : Value} {q : List ℕ} → t ∋ enter k o w q s y → Entered C t w
+  by_relay : {k o s : ℕ} {y : Value} {q : List ℕ} → t ∋ enter k o w q s y → Entered C t w
 
 -- the history that a log tells
 abbrev pub history : Setting → Log → History
@@ -34,12 +34,12 @@ module _ {C : Setting} {t : Log} (S : Sound C t) where
   raised-own m =
       let r = why S m in
       let (k, c) = someone r.is in
-      let w = why S (past-has (back r.past) c) in
-      (k, past-has (back w.past) w.is.own-now)
+      let w = why S (past_has (back r.past) c) in
+      (k, past_has (back w.past) w.is.own_now)
 
   -- a relay's converged sequences are nested
-  conv-chain : (k v : ℕ) → Chain (λ q. t ∋ conv k v q)
-  conv-chain k v p q m n =
+  conv_chain : (k v : ℕ) → Chain (λ q. t ∋ conv k v q)
+  conv_chain k v p q m n =
       let x = why S m in
       let y = why S n in
       go x.past y.past (places x.past y.past)
@@ -50,8 +50,8 @@ module _ {C : Setting} {t : Log} (S : Sound C t) where
       go x y (later h) = inr ((justified S x).grown q (here h))
 
   pub opened : {l : Log} {k v : ℕ} → Past t l → Active C l k v → Opened (history C t) v
-  opened x (active-start e) = at-start e
-  opened x (active-enter m i) = let w = why S (past-has x m) in alone (past-has (back w.past) w.is.raised) i
+  opened x (active-start e) = at_start e
+  opened x (active_enter m i) = let w = why S (past_has x m) in alone (past_has (back w.past) w.is.raised) i
 
   own-sequence : {k v : ℕ} {q : List ℕ} → t ∋ own k v q → Sequence q
   own-sequence m = (why S m).is.sequence
@@ -84,9 +84,9 @@ module _ {C : Setting} {t : Log} (S : Sound C t) where
     gathered (e ∷ l) x k q (Memᴰ.head d) = go (gathered l (back x)) (because S x d).from
       where
         go : ((k : ℕ) (q : List ℕ) → l ∋ own k v q → FromFirst q) → OwnFrom l k v q → FromFirst q
-        go ih (own_first m) = given (k, past-has (back x) m)
-        go ih (own-merge (inl z) m g) = take z (ih _ _ m) g
-        go ih (own-merge (inr n) m g) = merge (own-sequence (past-has (back x) n)) (own-sequence (past-has (back x) m)) (ih k _ n) (ih _ _ m) g
+        go ih (own_first m) = given (k, past_has (back x) m)
+        go ih (own_merge (inl z) m g) = take z (ih _ _ m) g
+        go ih (own_merge (inr n) m g) = merge (own-sequence (past_has (back x) n)) (own-sequence (past_has (back x) m)) (ih k _ n) (ih _ _ m) g
 
   -- and there is a first proposal in any case
   proposed : (l : Log) → Past t l → (k v : ℕ) (q : List ℕ) → l ∋ own k v q → (j : ℕ) × (p : List ℕ) × (t ∋ first j v p)
@@ -96,30 +96,30 @@ module _ {C : Setting} {t : Log} (S : Sound C t) where
     where
       go : ((k v : ℕ) (q : List ℕ) → l ∋ own k v q → (j : ℕ) × (p : List ℕ) × (t ∋ first j v p)) → OwnFrom l k v q
           → (j : ℕ) × (p : List ℕ) × (t ∋ first j v p)
-      go ih (own_first m) = (k, q, past-has (back x) m)
-      go ih (own-merge n m g) = ih _ v _ m
+      go ih (own_first m) = (k, q, past_has (back x) m)
+      go ih (own_merge n m g) = ih _ v _ m
 
   pub active-entered : {l : Log} {k v : ℕ} → Past t l → Active C l k v → Entered C t v
   active-entered x (active-start e) = from_start e
-  active-entered x (active-enter m i) = by-relay (past-has x m)
+  active-entered x (active_enter m i) = by_relay (past_has x m)
 
   first-entered : {k v : ℕ} {q : List ℕ} → Why C t (first k v q) → Entered C t v
   first-entered {k} {v} {q} w = go w.is
     where
       go : First C w.before k v q → Entered C t v
-      go (by-timer a) = active-entered (back w.past) a
-      go (by-entry m i) = by-relay (past-has (back w.past) m)
+      go (by_timer a) = active-entered (back w.past) a
+      go (by_entry m i) = by_relay (past_has (back w.past) m)
 
-  first-origin : {k v : ℕ} {q : List ℕ} → Why C t (first k v q) → Origin (history C t) v q
-  first-origin {k} {v} {q} w = go w.is
+  first_origin : {k v : ℕ} {q : List ℕ} → Why C t (first k v q) → Origin (history C t) v q
+  first_origin {k} {v} {q} w = go w.is
     where
       go : First C w.before k v q → Origin (history C t) v q
-      go (by-timer a) = timer (opened (back w.past) a)
-      go (by-entry m i) = let n = why S (past-has (back w.past) m) in entry (past-has (back n.past) n.is.raised) n.is.least i
+      go (by_timer a) = timer (opened (back w.past) a)
+      go (by_entry m i) = let n = why S (past_has (back w.past) m) in entry (past_has (back n.past) n.is.raised) n.is.least i
 
   arrival : {v : ℕ} → Entered C t v → Arrival (history C t) v
   arrival (from_start e) = start-view e
-  arrival (by-relay m) = let n = why S m in through (past-has (back n.past) n.is.raised) n.is.least
+  arrival (by_relay m) = let n = why S m in through (past_has (back n.past) n.is.raised) n.is.least
 
   pub facts : Facts (history C t)
   facts = record {
@@ -130,10 +130,10 @@ module _ {C : Setting} {t : Log} (S : Sound C t) where
         let x = why S m in
         let y = why S n in
         let (k, a, b) = shared x.is y.is in
-        conv-chain k v p q (past-has (back x.past) a) (past-has (back y.past) b);
-    origin = λ {v} {p} m. first-origin (why S m.1);
+        conv_chain k v p q (past_has (back x.past) a) (past_has (back y.past) b);
+    origin = λ {v} {p} m. first_origin (why S m.1);
     agreed = λ v c q m.
-        let a = gathered-chain c (gathered c t now _ q (raised-own m).1) in
+        let a = gathered_chain c (gathered c t now _ q (raised-own m).1) in
         (a.it, a.is, a.sub);
     arrival = arrival;
   }

@@ -1,6 +1,6 @@
 -- The two theorems on a history that has the facts of `Facts.antt`:
 --   `passed`    a raised sequence that passes over a view b binds all that is proposed and raised in b, and b was never opened;
---   `one-chain` any two entered views are comparable.
+--   `one_chain` any two entered views are comparable.
 -- Both by one induction on sizes: the comparison of x and y has the measure |x| + |y|, and what holds at b the measure 2 |b|.
 -- Assumes nothing.
 use mathlib.Core.Path.{◌≡◌, sym, subst, ◌∙◌}
@@ -9,9 +9,9 @@ use mathlib.Core.List.{List}
 use Prim.Native.Nat.{ℕ, zero, suc, ◌+◌, ◌≤◌, ◌<◌}
 use native.Mathlib.Omega.{arith}
 use lib.Count.{ones}
-use Rattle.views.proofs.Sets.{Inside, inside-grows, inside-irrefl, inside-trans}
-use Rattle.safety.proofs.Sequences.{◌⊆◌, Comparable, same, inner, outer, Above, Least, Nested, Chain, single-least, above-least, above-inside, above-not, without-nested}
-use Rattle.safety.proofs.Facts.{History, Opened, at-start, alone, Origin, entry, timer, Arrival, start, through, Facts}
+use Rattle.views.proofs.Sets.{Inside, inside_grows, inside_irrefl, inside_trans}
+use Rattle.safety.proofs.Sequences.{◌⊆◌, Comparable, same, inner, outer, Above, Least, Nested, Chain, single_least, above_least, above_inside, above_not, without_nested}
+use Rattle.safety.proofs.Facts.{History, Opened, at_start, alone, Origin, entry, timer, Arrival, start, through, Facts}
 
 module _ (H : History) where
   -- q was raised in a, and passes over b: b lies after a, and before all of q
@@ -21,8 +21,8 @@ module _ (H : History) where
     pub before : Above b q
 
   -- that is, b lies before the least view of q
-  pub passes-least : {a b l : ℕ} {q : List ℕ} → H.Raised a q → Inside a b → Inside b l → Least l q → Passes a b q
-  passes-least r i j t = record { raised = r; after = i; before = above-least j t }
+  pub passes_least : {a b l : ℕ} {q : List ℕ} → H.Raised a q → Inside a b → Inside b l → Least l q → Passes a b q
+  passes_least r i j t = record { raised = r; after = i; before = above_least j t }
 
   -- so b is bound by q
   pub record Bound (b : ℕ) (q : List ℕ) : Type 0 where
@@ -43,11 +43,11 @@ module _ (H : History) (F : Facts H) where
     where
       further : {o : ℕ} → Inside o v → (H.start ≡ o) ⊎ Inside H.start o → Inside H.start v
       further i (inl e) = subst (λ (x : ℕ). Inside x v) (sym e) i
-      further i (inr j) = inside-trans j i
+      further i (inr j) = inside_trans j i
 
       go : ((u : ℕ) → ones u < n → H.Entered u → (H.start ≡ u) ⊎ Inside H.start u) → Arrival H v → (H.start ≡ v) ⊎ Inside H.start v
       go ih (start e) = inl (sym e)
-      go ih (through r t) = let i = F.above r v t.has in inr (further i (ih _ (omega (arith, inside-grows i)) (F.entered r)))
+      go ih (through r t) = let i = F.above r v t.has in inr (further i (ih _ (omega (arith, inside_grows i)) (F.entered r)))
 
   module _ (n : ℕ) (K : Known H n) where
     -- two raised sequences, each wholly above the view in which the other was raised
@@ -63,28 +63,28 @@ module _ (H : History) (F : Facts H) where
     module _ {a b : ℕ} {q : List ℕ} (s : Passes H a b q) (m : ones b + ones b ≤ n) where
       -- every raised sequence that begins with b goes on with q
       carried : {o : ℕ} {r : List ℕ} → H.Raised o r → Least b r → q ⊆ r
-      carried {o} {r} h t = go (nested s.raised h (above-least s.after t) (above-inside i s.before) (omega (arith, inside-grows s.after)) (omega (arith, inside-grows i)))
+      carried {o} {r} h t = go (nested s.raised h (above_least s.after t) (above_inside i s.before) (omega (arith, inside_grows s.after)) (omega (arith, inside_grows i)))
         where
           i : Inside o b
           i = F.above h b t.has
 
           go : Nested q r → q ⊆ r
           go (inl k) = k
-          go (inr k) = absurd (inside-irrefl (s.before b (k b t.has)))
+          go (inr k) = absurd (inside_irrefl (s.before b (k b t.has)))
 
       unopened : Opened H b → ⊥
-      unopened (at-start e) = go (start_first (suc (ones a)) (omega arith) (F.entered s.raised))
+      unopened (at_start e) = go (start_first (suc (ones a)) (omega arith) (F.entered s.raised))
         where
           go : (H.start ≡ a) ⊎ Inside H.start a → ⊥
           go (inl d) = s.after.other (sym (e ∙ d))
-          go (inr i) = inside-irrefl (inside-trans s.after (subst (λ (x : ℕ). Inside x a) (sym e) i))
+          go (inr i) = inside_irrefl (inside_trans s.after (subst (λ (x : ℕ). Inside x a) (sym e) i))
       unopened (alone h t) =
           let f = F.sequence s.raised in
-          above-not s.before f.has (t.only f.first (carried h (single-least t) f.first f.has))
+          above_not s.before f.has (t.only f.first (carried h (single_least t) f.first f.has))
 
       -- so a proposal of b's is what entering b left of such a sequence
       proposal : {p : List ℕ} → Origin H b p → q ⊆ p
-      proposal (entry h t w) v k = w.kept v (carried h t v k) (above-not s.before k)
+      proposal (entry h t w) v k = w.kept v (carried h t v k) (above_not s.before k)
       proposal (timer o) v k = absurd (unopened o)
 
       proposals : {p p' : List ℕ} → Origin H b p → Origin H b p' → Nested p p'
@@ -93,7 +93,7 @@ module _ (H : History) (F : Facts H) where
       proposals (entry h t w) (entry h' t' w') =
           let i = F.above h b t.has in
           let i' = F.above h' b t'.has in
-          without-nested w w' (nested h h' (above-least i t') (above-least i' t) (omega (arith, inside-grows i)) (omega (arith, inside-grows i')))
+          without_nested w w' (nested h h' (above_least i t') (above_least i' t) (omega (arith, inside_grows i)) (omega (arith, inside_grows i')))
 
       is_bound : Bound H b q
       is_bound =
@@ -107,11 +107,11 @@ module _ (H : History) (F : Facts H) where
     -- ---- two entered views
     module _ {x y : ℕ} (m : ones x + ones y ≤ n) where
       -- entered through p and q, each raised in a view inside both
-      through-both : {a b : ℕ} {p q : List ℕ} → H.Raised a p → Least x p → H.Raised b q → Least y q → Inside a y → Inside b x → Comparable x y
-      through-both {a} {b} {p} {q} r s r' s' i j =
+      through_both : {a b : ℕ} {p q : List ℕ} → H.Raised a p → Least x p → H.Raised b q → Least y q → Inside a y → Inside b x → Comparable x y
+      through_both {a} {b} {p} {q} r s r' s' i j =
           let i' = F.above r x s.has in
           let j' = F.above r' y s'.has in
-          go (nested r r' (above-least i s') (above-least j s) (omega (arith, inside-grows i, inside-grows i')) (omega (arith, inside-grows j, inside-grows j')))
+          go (nested r r' (above_least i s') (above_least j s) (omega (arith, inside_grows i, inside_grows i')) (omega (arith, inside_grows j, inside_grows j')))
         where
           go : Nested p q → Comparable x y
           go (inl k) = (F.sequence r').nested x y (k x s.has) s'.has
@@ -131,14 +131,14 @@ module _ (H : History) (F : Facts H) where
       arrived e f (through {o = a} r s) (through {o = b} r' s') =
           let i = F.above r x s.has in
           let j = F.above r' y s'.has in
-          go i j (K.comparable (F.entered r) f (omega (arith, inside-grows i))) (K.comparable (F.entered r') e (omega (arith, inside-grows j)))
+          go i j (K.comparable (F.entered r) f (omega (arith, inside_grows i))) (K.comparable (F.entered r') e (omega (arith, inside_grows j)))
         where
           go : Inside a x → Inside b y → Comparable a y → Comparable b x → Comparable x y
           go i j (same c) d = outer (subst (λ (z : ℕ). Inside z x) c i)
-          go i j (outer c) d = outer (inside-trans c i)
+          go i j (outer c) d = outer (inside_trans c i)
           go i j (inner c) (same d) = inner (subst (λ (z : ℕ). Inside z y) d j)
-          go i j (inner c) (outer d) = inner (inside-trans d j)
-          go i j (inner c) (inner d) = through-both r s r' s' c d
+          go i j (inner c) (outer d) = inner (inside_trans d j)
+          go i j (inner c) (inner d) = through_both r s r' s' c d
 
   known : (n : ℕ) → Known H n
   known zero = record { comparable = λ {x} {y} e f l. absurd (omega arith); bound = λ {a} {b} {q} s l. absurd (omega arith) }
@@ -154,9 +154,9 @@ module _ (H : History) (F : Facts H) where
   passed {b = b} s = (known (suc (ones b + ones b))).bound s (omega arith)
 
   -- THEOREM 2: any two entered views are comparable
-  pub one-chain : {x y : ℕ} → H.Entered x → H.Entered y → Comparable x y
-  one-chain {x} {y} e f = (known (suc (ones x + ones y))).comparable e f (omega arith)
+  pub one_chain : {x y : ℕ} → H.Entered x → H.Entered y → Comparable x y
+  one_chain {x} {y} e f = (known (suc (ones x + ones y))).comparable e f (omega arith)
 
   -- and the start is the least of them
-  pub start-least : {v : ℕ} → H.Entered v → (H.start ≡ v) ⊎ Inside H.start v
-  start-least {v} e = start_first (suc (ones v)) (omega arith) e
+  pub start_least : {v : ℕ} → H.Entered v → (H.start ≡ v) ⊎ Inside H.start v
+  start_least {v} e = start_first (suc (ones v)) (omega arith) e

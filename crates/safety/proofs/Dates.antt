@@ -39,8 +39,8 @@ module _ (F : Times) (d t i : ℕ) where
       go (no x) y = rw (ne_eqb e d x)
 
   -- which it is
-  pub noted-which : (e u : ℕ) → ((e ≡ d) × (u ≡ t)) ⊎ (noted F d t i e u ≡ F e u)
-  noted-which e u = go (ℕ_discrete e d) (ℕ_discrete u t)
+  pub noted_which : (e u : ℕ) → ((e ≡ d) × (u ≡ t)) ⊎ (noted F d t i e u ≡ F e u)
+  noted_which e u = go (ℕ_discrete e d) (ℕ_discrete u t)
     where
       go : Dec (e ≡ d) → Dec (u ≡ t) → ((e ≡ d) × (u ≡ t)) ⊎ (noted F d t i e u ≡ F e u)
       go (yes x) (yes y) = inl (x, y)
@@ -57,8 +57,8 @@ pub record Dates (l : Log) (i : ℕ) (begins ends : Times) : Type 0 where
   -- a desk begins one operation in a step
   pub apart : (d t u : ℕ) (a b : Task) → l ∋ begin d t a → l ∋ begin d u b → begins d t ≡ begins d u → t ≡ u
 
-pub dates-none : Dates [] 1 (λ d t. 0) (λ d t. 0)
-dates-none = record {
+pub dates_none : Dates [] 1 (λ d t. 0) (λ d t. 0)
+dates_none = record {
   began = λ d t a m. absurd (Memᴰ.not-nil m);
   ended = λ o m. absurd (Memᴰ.not-nil m);
   really = λ d t h. absurd (omega arith);
@@ -78,28 +78,28 @@ past_cases {e} {f} {l} {m} (back {e = g} p) = go (past_cases p)
 -- ---- an entry that neither begins nor ends an operation
 
 module _ {i : ℕ} {B E : Times} where
-  pub dates-plain : {l m : Log} → Since Plain l m → Dates l i B E → Dates m i B E
-  dates-plain stay D = D
-  dates-plain (add {e = e} {m = m} p s) D = go (dates-plain s D)
+  pub dates_plain : {l m : Log} → Since Plain l m → Dates l i B E → Dates m i B E
+  dates_plain stay D = D
+  dates_plain (add {e = e} {m = m} p s) D = go (dates_plain s D)
     where
       old-begin : {d t : ℕ} {a : Task} → (e ∷ m) ∋ begin d t a → m ∋ begin d t a
       old-begin h = older (p.0 _ _ _) h
 
-      old-finish : {o : Op} → (e ∷ m) ∋ finish o → m ∋ finish o
-      old-finish h = older (p.1 _) h
+      old_finish : {o : Op} → (e ∷ m) ∋ finish o → m ∋ finish o
+      old_finish h = older (p.1 _) h
 
       go : Dates m i B E → Dates (e ∷ m) i B E
       go F = record {
         began = λ d t a h. F.began d t a (old-begin h);
-        ended = λ o h. F.ended o (old-finish h);
+        ended = λ o h. F.ended o (old_finish h);
         really = λ d t h. done_more (F.really d t h);
-        timely = λ q o h x. ⊎_elim (λ c. absurd (p.0 _ _ _ c.0)) (λ r. F.timely r o (old-finish h) x) (past_cases q);
+        timely = λ q o h x. ⊎_elim (λ c. absurd (p.0 _ _ _ c.0)) (λ r. F.timely r o (old_finish h) x) (past_cases q);
         apart = λ d t u a b h k. F.apart d t u a b (old-begin h) (old-begin k);
       }
 
   -- a step more
-  pub dates-on : {l : Log} → Dates l i B E → Dates l (suc i) B E
-  dates-on D = record {
+  pub dates_on : {l : Log} → Dates l i B E → Dates l (suc i) B E
+  dates_on D = record {
     began = λ d t a h. omega (arith, D.began d t a h);
     ended = λ o h. ((D.ended o h).0, omega (arith, (D.ended o h).1));
     really = D.really;
@@ -112,12 +112,12 @@ module _ {i : ℕ} {B E : Times} where
     pub begun-before : (d t : ℕ) (a : Task) → l ∋ begin d t a → noted B n s i d t ≡ B d t
     begun-before d t a h = noted_other B n s i d t (λ e f. omega (arith, fresh t a (subst (λ (z : ℕ). l ∋ begin z t a) e h)))
 
-    same-begin : {d t : ℕ} {a : Task} → begin d t a ≡ begin n s x → (d ≡ n) × (t ≡ s)
-    same-begin c = (cc, cc)
+    same_begin : {d t : ℕ} {a : Task} → begin d t a ≡ begin n s x → (d ≡ n) × (t ≡ s)
+    same_begin c = (cc, cc)
 
-    pub dates-begin : Dates (begin n s x ∷ l) (suc i) (noted B n s i) E
-    dates-begin = record {
-      began = λ d t a h. ⊎_elim (λ c. omega (arith, noted_here B n s i (same-begin c).0 (same-begin c).1))
+    pub dates_begin : Dates (begin n s x ∷ l) (suc i) (noted B n s i) E
+    dates_begin = record {
+      began = λ d t a h. ⊎_elim (λ c. omega (arith, noted_here B n s i (same_begin c).0 (same_begin c).1))
           (λ k. omega (arith, begun-before d t a k, D.began d t a k)) (Memᴰ.cases_cons h);
       ended = λ o h. let k = past-kind (omega arith) h in ((D.ended o k).0, omega (arith, (D.ended o k).1));
       really = λ d t h. done_more (D.really d t h);
@@ -134,20 +134,20 @@ module _ {i : ℕ} {B E : Times} where
 
         apart : (d t u : ℕ) (a b : Task) → (begin d t a ≡ begin n s x) ⊎ (l ∋ begin d t a) → (begin d u b ≡ begin n s x) ⊎ (l ∋ begin d u b)
             → noted B n s i d t ≡ noted B n s i d u → t ≡ u
-        apart d t u a b (inl c) (inl f) e = (same-begin c).1 ∙ sym (same-begin f).1
-        apart d t u a b (inl c) (inr k) e = absurd (omega (arith, noted_here B n s i (same-begin c).0 (same-begin c).1, begun-before d u b k, D.began d u b k))
-        apart d t u a b (inr h) (inl f) e = absurd (omega (arith, noted_here B n s i (same-begin f).0 (same-begin f).1, begun-before d t a h, D.began d t a h))
+        apart d t u a b (inl c) (inl f) e = (same_begin c).1 ∙ sym (same_begin f).1
+        apart d t u a b (inl c) (inr k) e = absurd (omega (arith, noted_here B n s i (same_begin c).0 (same_begin c).1, begun-before d u b k, D.began d u b k))
+        apart d t u a b (inr h) (inl f) e = absurd (omega (arith, noted_here B n s i (same_begin f).0 (same_begin f).1, begun-before d t a h, D.began d t a h))
         apart d t u a b (inr h) (inr k) e = D.apart d t u a b h k (sym (begun-before d t a h) ∙ e ∙ begun-before d u b k)
 
   -- ---- the operation o ends
   module _ {l : Log} (D : Dates l i B E) (o : Op) (up : 0 < i) where
-    pub dates-finish : Dates (finish o ∷ l) (suc i) B (noted E o.desk o.try i)
-    dates-finish = record {
+    pub dates_finish : Dates (finish o ∷ l) (suc i) B (noted E o.desk o.try i)
+    dates_finish = record {
       began = λ d t a h. omega (arith, D.began d t a (past-kind (omega arith) h));
-      ended = λ p h. ended p (Memᴰ.cases_cons h) (noted-which E o.desk o.try i p.desk p.try);
-      really = λ d t h. ⊎_elim (λ c. (o, Memᴰ.head refl, sym c.0, sym c.1)) (λ c. done_more (D.really d t (omega arith))) (noted-which E o.desk o.try i d t);
+      ended = λ p h. ended p (Memᴰ.cases_cons h) (noted_which E o.desk o.try i p.desk p.try);
+      really = λ d t h. ⊎_elim (λ c. (o, Memᴰ.head refl, sym c.0, sym c.1)) (λ c. done_more (D.really d t (omega arith))) (noted_which E o.desk o.try i d t);
       timely = λ q p h y. ⊎_elim (λ c. absurd (omega (arith, ap tag c.0)))
-          (λ r. timely r p y (Memᴰ.cases_cons h) (noted-which E o.desk o.try i p.desk p.try)) (past_cases q);
+          (λ r. timely r p y (Memᴰ.cases_cons h) (noted_which E o.desk o.try i p.desk p.try)) (past_cases q);
       apart = λ d t u a b h k. D.apart d t u a b (past-kind (omega arith) h) (past-kind (omega arith) k);
     }
       where

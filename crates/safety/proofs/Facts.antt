@@ -17,7 +17,7 @@ pub record History : Type 1 where
 module _ (H : History) where
   -- v was opened: the run started there, or {v} was raised
   pub data Opened (v : ℕ) : Type 0 where
-    at-start : v ≡ H.start → Opened v
+    at_start : v ≡ H.start → Opened v
     alone : {o : ℕ} {q : List ℕ} → H.Raised o q → Single v q → Opened v
 
   -- where a first proposal in v comes from: entering v through a raised sequence, which leaves the rest of it; or a timer in

@@ -26,10 +26,10 @@ module _ {A : Type 0} {P : A → Type 0} where
   all_set zero x p (all_more q a) = all_more p a
   all_set (suc i) x p (all_more q a) = all_more q (all_set i x p a)
 
-  pub all-at : {xs : List A} (i : ℕ) (d : A) → P d → All P xs → P (get_or xs i d)
-  all-at i d p all_none = p
-  all-at zero d p (all_more q a) = q
-  all-at (suc i) d p (all_more q a) = all-at i d p a
+  pub all_at : {xs : List A} (i : ℕ) (d : A) → P d → All P xs → P (get_or xs i d)
+  all_at i d p all_none = p
+  all_at zero d p (all_more q a) = q
+  all_at (suc i) d p (all_more q a) = all_at i d p a
 
   pub all_replicate : (n : ℕ) (x : A) → P x → All P (replicate n x)
   all_replicate zero x p = all_none
@@ -40,10 +40,10 @@ module _ {A : Type 0} {P : A → Type 0} where
   all_map f (all_more {x = x} p a) = all_more (f x p) (all_map f a)
 
 -- those that pass a test do
-pub those-pass : {A : Type 0} (f : A → Bool) (xs : List A) → All (λ x. f x ≡ true) (those f xs)
+pub those_pass : {A : Type 0} (f : A → Bool) (xs : List A) → All (λ x. f x ≡ true) (those f xs)
 unfolding those
-those-pass f [] = all_none
-those-pass f (x ∷ xs) = cases (All (λ x. f x ≡ true)) (f x) (λ e. all_more e (those-pass f xs)) (λ e. those-pass f xs)
+those_pass f [] = all_none
+those_pass f (x ∷ xs) = cases (All (λ x. f x ≡ true)) (f x) (λ e. all_more e (those_pass f xs)) (λ e. those_pass f xs)
 
 pub all-image : {A B : Type 0} {P : B → Type 0} (f : A → B) {xs : List A} → All (λ x. P (f x)) xs → All P (map f xs)
 all-image f all_none = all_none

@@ -7,7 +7,7 @@ use mathlib.Core.Logic.{◌⊎◌}
 use mathlib.Core.List.{List, [], ◌∷◌, Memᴰ}
 use Prim.Native.Nat.{ℕ, ◌+◌, ◌*◌, ◌≤◌, ◌<◌}
 use Rattle.views.proofs.Sets.{Inside}
-use Rattle.rules.specs.Stamps.{Value, noValue}
+use Rattle.rules.specs.Stamps.{Value, no_value}
 pub use Rattle.rules.specs.History.{Task, reading, writing}
 use Rattle.safety.proofs.Setting.{Setting}
 use Rattle.safety.proofs.Sequences.{◌∈◌, ◌⊆◌, Comparable, Sequence, Above, Least, Single, Without}
@@ -72,8 +72,8 @@ l ∋ e = Memᴰ e l
 
 -- while its view was v, it had the stamp s with the value y
 pub data Shown (l : Log) (k v s : ℕ) (y : Value) : Type 0 where
-  by-enter : {o : ℕ} {q : List ℕ} → l ∋ enter k o v q s y → Shown l k v s y
-  by-reply : {d t : ℕ} → l ∋ reply k d t v s y → Shown l k v s y
+  by_enter : {o : ℕ} {q : List ℕ} → l ∋ enter k o v q s y → Shown l k v s y
+  by_reply : {d t : ℕ} → l ∋ reply k d t v s y → Shown l k v s y
 
 -- v may be its view now, and s its stamp: nothing that the log shows of it lies beyond
 abbrev pub Current : Log → ℕ → ℕ → ℕ → Type 0
@@ -82,13 +82,13 @@ Current l k v s = (u r : ℕ) (y : Value) → Shown l k u r y → Inside u v ⊎
 module _ (C : Setting) where
   -- where its view v, its stamp s and its value y come from
   pub data Has (l : Log) (k v s : ℕ) (y : Value) : Type 0 where
-    has-start : v ≡ C.view → s ≡ 0 → y ≡ noValue → Has l k v s y
-    has-shown : Shown l k v s y → Has l k v s y
+    has_start : v ≡ C.view → s ≡ 0 → y ≡ no_value → Has l k v s y
+    has_shown : Shown l k v s y → Has l k v s y
 
   -- it became active in v
   pub data Active (l : Log) (k v : ℕ) : Type 0 where
     active-start : v ≡ C.view → Active l k v
-    active-enter : {o s : ℕ} {y : Value} {q : List ℕ} → l ∋ enter k o v q s y → Single v q → Active l k v
+    active_enter : {o s : ℕ} {y : Value} {q : List ℕ} → l ∋ enter k o v q s y → Single v q → Active l k v
 
 -- ---- what justifies an entry, in the log l before it
 
@@ -99,7 +99,7 @@ pub data Merge (p r q : List ℕ) : Type 0 where
 
 pub data OwnFrom (l : Log) (k v : ℕ) (q : List ℕ) : Type 0 where
   own_first : l ∋ first k v q → OwnFrom l k v q
-  own-merge : {j : ℕ} {p r : List ℕ} → (p ≡ []) ⊎ (l ∋ own k v p) → l ∋ own j v r → Merge p r q → OwnFrom l k v q
+  own_merge : {j : ℕ} {p r : List ℕ} → (p ≡ []) ⊎ (l ∋ own k v p) → l ∋ own j v r → Merge p r q → OwnFrom l k v q
 
 pub record Own (l : Log) (k v : ℕ) (q : List ℕ) : Type 0 where
   pub sequence : Sequence q
@@ -108,7 +108,7 @@ pub record Own (l : Log) (k v : ℕ) (q : List ℕ) : Type 0 where
 
 -- converged becomes own, and so it only grows
 pub record Conv (l : Log) (k v : ℕ) (q : List ℕ) : Type 0 where
-  pub own-now : l ∋ own k v q
+  pub own_now : l ∋ own k v q
   pub grown : (p : List ℕ) → l ∋ conv k v p → p ⊆ q
 
 abbrev pub Raise : Setting → Log → ℕ → List ℕ → Type 0
@@ -124,8 +124,8 @@ pub record Given (l : Log) (o w s k : ℕ) : Type 0 where
 
 -- the greatest of what came, where one begins with 0 and 0
 pub data Best (P : ℕ → Value → Type 0) (s : ℕ) (y : Value) : Type 0 where
-  best_none : s ≡ 0 → y ≡ noValue → Best P s y
-  best-one : P s y → Best P s y
+  best_none : s ≡ 0 → y ≡ no_value → Best P s y
+  best_one : P s y → Best P s y
 
 pub record Enter (C : Setting) (l : Log) (o w : ℕ) (q : List ℕ) (s : ℕ) (y : Value) : Type 0 where
   pub raised : l ∋ raise o q
@@ -159,7 +159,7 @@ pub record Answered (l : Log) (d t v s k : ℕ) : Type 0 where
 -- answer's count is above c
 pub data Result (C : Setting) (l : Log) (d t v : ℕ) : Task → ℕ → Value → Type 0 where
   read_result : {s : ℕ} {y : Value} → Most C v (Answered l d t v s) → Best (λ r z. (k : ℕ) × (l ∋ reply k d t v r z)) s y → Result C l d t v reading s y
-  write-result : {y : Value} (c : ℕ) → Most C v (Answered l d t v (4 * c + 3)) → Result C l d t v (writing y) (4 * (c + 1) + d) y
+  write_result : {y : Value} (c : ℕ) → Most C v (Answered l d t v (4 * c + 3)) → Result C l d t v (writing y) (4 * (c + 1) + d) y
 
 pub record Settle (C : Setting) (l : Log) (o : Op) : Type 0 where
   pub begun : l ∋ begin o.desk o.try o.task
@@ -172,7 +172,7 @@ pub record Settle (C : Setting) (l : Log) (o : Op) : Type 0 where
 -- the last quorum: a read's replies agreed on the stamp, or all replied to a put of it
 pub data Ends (C : Setting) (l : Log) (o : Op) : Type 0 where
   agreed : {t v : ℕ} → Most C v (λ k. (z : Value) × (l ∋ reply k o.desk t v o.stamp z)) → Ends C l o
-  put-down : {t v : ℕ} → l ∋ ask o.desk t o.try v (put o.stamp o.value)
+  put_down : {t v : ℕ} → l ∋ ask o.desk t o.try v (put o.stamp o.value)
       → Most C v (λ k. (r : ℕ) × (z : Value) × (l ∋ reply k o.desk t v r z)) → Ends C l o
 
 pub record Finish (C : Setting) (l : Log) (o : Op) : Type 0 where
@@ -183,8 +183,8 @@ pub record Finish (C : Setting) (l : Log) (o : Op) : Type 0 where
 module _ (C : Setting) where
   -- the relay proposes: by its timer, being active; or on entering v, what is left of the sequence
   pub data First (l : Log) (k v : ℕ) (q : List ℕ) : Type 0 where
-    by-timer : Active C l k v → First l k v q
-    by-entry : {o s : ℕ} {y : Value} {r : List ℕ} → l ∋ enter k o v r s y → Without v r q → First l k v q
+    by_timer : Active C l k v → First l k v q
+    by_entry : {o s : ℕ} {y : Value} {r : List ℕ} → l ∋ enter k o v r s y → Without v r q → First l k v q
 
   pub record State (l : Log) (k x o s : ℕ) (y : Value) : Type 0 where
     pub reached : (x ≡ o) ⊎ Inside o x
@@ -222,5 +222,5 @@ module _ (C : Setting) where
 
   -- every entry is justified by those before it
   pub data Sound : Log → Type 0 where
-    sound-nil : Sound []
-    sound-cons : {e : Entry} {l : Log} → Sound l → Justified l e → Sound (e ∷ l)
+    sound_nil : Sound []
+    sound_cons : {e : Entry} {l : Log} → Sound l → Justified l e → Sound (e ∷ l)

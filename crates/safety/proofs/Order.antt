@@ -4,7 +4,7 @@
 use mathlib.Core.Path.{◌≡◌}
 use mathlib.Core.List.{List, [], ◌∷◌, Memᴰ}
 use Prim.Native.Nat.{ℕ, ◌≤◌}
-use Rattle.rules.specs.Stamps.{Value, noValue}
+use Rattle.rules.specs.Stamps.{Value, no_value}
 use Rattle.safety.proofs.Log.{Task, reading, writing, Op, Log, ◌∋◌, settle, finish}
 use Rattle.safety.proofs.Operations.{Writes, Reads, Precedes}
 
@@ -28,7 +28,7 @@ pick reading s b = b
 pick (writing y) s b = (s, y)
 
 unfoldable pub latest : Ops → ℕ × Value
-latest [] = (0, noValue)
+latest [] = (0, no_value)
 latest (o ∷ r) = pick o.task o.stamp (latest r)
 
 -- o may stand next after the operations r
@@ -38,8 +38,8 @@ pub record Next (t : Log) (o : Op) (r : Ops) : Type 0 where
   pub returns : Reads o → latest r ≡ (o.stamp, o.value)
 
 pub data Lined (t : Log) : Ops → Type 0 where
-  lined-nil : Lined t []
-  lined-cons : {o : Op} {r : Ops} → Next t o r → Lined t r → Lined t (o ∷ r)
+  lined_nil : Lined t []
+  lined_cons : {o : Op} {r : Ops} → Next t o r → Lined t r → Lined t (o ∷ r)
 
 -- an order of the operations of t, newest first
 pub record Order (t : Log) (r : Ops) : Type 0 where
@@ -49,5 +49,5 @@ pub record Order (t : Log) (r : Ops) : Type 0 where
 
 -- besides, stamps never fall along it
 pub data Descending : Ops → Type 0 where
-  desc-nil : Descending []
-  desc-cons : {o : Op} {r : Ops} → ((p : Op) → r contains p → p.stamp ≤ o.stamp) → Descending r → Descending (o ∷ r)
+  desc_nil : Descending []
+  desc_cons : {o : Op} {r : Ops} → ((p : Op) → r contains p → p.stamp ≤ o.stamp) → Descending r → Descending (o ∷ r)

@@ -5,24 +5,24 @@ use mathlib.Core.Path.{◌≡◌, refl, sym, subst}
 use mathlib.Core.List.Memᴰ
 use mathlib.Core.List.{◌∷◌}
 use Rattle.safety.proofs.Setting.{Setting}
-use Rattle.safety.proofs.Log.{Entry, Log, ◌∋◌, Justified, Sound, sound-cons}
+use Rattle.safety.proofs.Log.{Entry, Log, ◌∋◌, Justified, Sound, sound_cons}
 use Prim.Native.Nat.{ℕ}
 
 pub data Past (t : Log) : Log → Type 0 where
   now : Past t t
   back : {e : Entry} {l : Log} → Past t (e ∷ l) → Past t l
 
-pub past-later : {e : Entry} {t l : Log} → Past t l → Past (e ∷ t) l
-past-later now = back now
-past-later (back p) = back (past-later p)
+pub past_later : {e : Entry} {t l : Log} → Past t l → Past (e ∷ t) l
+past_later now = back now
+past_later (back p) = back (past_later p)
 
-pub past-trans : {t l m : Log} → Past t l → Past l m → Past t m
-past-trans p now = p
-past-trans p (back q) = back (past-trans p q)
+pub past_trans : {t l m : Log} → Past t l → Past l m → Past t m
+past_trans p now = p
+past_trans p (back q) = back (past_trans p q)
 
-pub past-has : {t l : Log} {e : Entry} → Past t l → l ∋ e → t ∋ e
-past-has now m = m
-past-has (back p) m = past-has p (Memᴰ.tail m)
+pub past_has : {t l : Log} {e : Entry} → Past t l → l ∋ e → t ∋ e
+past_has now m = m
+past_has (back p) m = past_has p (Memᴰ.tail m)
 
 -- where an entry stands
 pub record Place (t : Log) (e : Entry) : Type 0 where
@@ -31,11 +31,11 @@ pub record Place (t : Log) (e : Entry) : Type 0 where
 
 pub place : {t : Log} {e : Entry} → t ∋ e → Place t e
 place {e = e} (Memᴰ.head {x = x} {xs = l} c) = record { before = l; past = subst (λ (y : Entry). Past (x ∷ l) (y ∷ l)) (sym c) now }
-place (Memᴰ.tail m) = let p = place m in record { before = p.before; past = past-later p.past }
+place (Memᴰ.tail m) = let p = place m in record { before = p.before; past = past_later p.past }
 
-pub past-tail : {e f : Entry} {l m : Log} → Past (f ∷ m) (e ∷ l) → Past m l
-past-tail now = now
-past-tail (back p) = back (past-tail p)
+pub past_tail : {e f : Entry} {l m : Log} → Past (f ∷ m) (e ∷ l) → Past m l
+past_tail now = now
+past_tail (back p) = back (past_tail p)
 
 -- two times: one is the past of the other
 data Times (l m : Log) : Type 0 where
@@ -51,8 +51,8 @@ times (back {e = e} {l = l} p) (back {e = f} {l = m} q) = go (times p q)
   where
     go : Times (e ∷ l) (f ∷ m) → Times l m
     go (at_once h) = at_once (cc)
-    go (before r) = before (past-tail r)
-    go (after r) = after (past-tail r)
+    go (before r) = before (past_tail r)
+    go (after r) = after (past_tail r)
 
 -- two places: the same, or one before the other
 pub data Places (e : Entry) (l : Log) (f : Entry) (m : Log) : Type 0 where
@@ -65,12 +65,12 @@ places {l = l} {m = m} {e = e} {f = f} p q = go (times p q)
   where
     go : Times (e ∷ l) (f ∷ m) → Places e l f m
     go (at_once h) = same (cc) (cc)
-    go (before r) = earlier (past-tail r)
-    go (after r) = later (past-tail r)
+    go (before r) = earlier (past_tail r)
+    go (after r) = later (past_tail r)
 
 -- the head of a past, and the entries before one
 pub here : {t l : Log} {e : Entry} → Past t (e ∷ l) → t ∋ e
-here p = past-has p (Memᴰ.head refl)
+here p = past_has p (Memᴰ.head refl)
 
 module _ {C : Setting} where
   pub sound-past : {t l : Log} → Sound C t → Past t l → Sound C l
@@ -78,20 +78,20 @@ module _ {C : Setting} where
   sound-past s (back p) = rest (sound-past s p)
     where
       rest : {e : Entry} {l : Log} → Sound C (e ∷ l) → Sound C l
-      rest (sound-cons s j) = s
+      rest (sound_cons s j) = s
 
   pub justified : {t l : Log} {e : Entry} → Sound C t → Past t (e ∷ l) → Justified C l e
   justified s p = last (sound-past s p)
     where
       last : {e : Entry} {l : Log} → Sound C (e ∷ l) → Justified C l e
-      last (sound-cons s j) = j
+      last (sound_cons s j) = j
 
   pub because : {t l : Log} {e f : Entry} → Sound C t → Past t (e ∷ l) → f ≡ e → Justified C l f
   because {l = l} s p c = subst (λ (x : Entry). Justified C l x) (sym c) (justified s p)
 
 -- one more entry, justified
 pub sound_more : {C : Setting} {l : Log} (e : Entry) → Sound C l → Justified C l e → Sound C (e ∷ l)
-sound_more e s j = sound-cons {e = e} s j
+sound_more e s j = sound_cons {e = e} s j
 
 -- an entry of a sound log, with its place and what justifies it there
 pub record Why (C : Setting) (t : Log) (e : Entry) : Type 0 where

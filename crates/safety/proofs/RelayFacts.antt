@@ -7,12 +7,12 @@ use mathlib.Core.List.Memᴰ
 use mathlib.Core.List.{List, [], ◌∷◌}
 use Prim.Native.Nat.{ℕ, ◌≤◌, ◌<◌}
 use native.Mathlib.Omega.{arith}
-use Rattle.views.proofs.Sets.{Inside, inside-irrefl, inside-trans}
-use Rattle.rules.specs.Stamps.{Value, noValue}
+use Rattle.views.proofs.Sets.{Inside, inside_irrefl, inside_trans}
+use Rattle.rules.specs.Stamps.{Value, no_value}
 use Rattle.safety.proofs.Setting.{Setting}
 use Rattle.safety.proofs.Sequences.{Single}
-use Rattle.safety.proofs.Log.{Ask, Entry, tag, Log, ◌∋◌, state, enter, ask, reply, Shown, by-enter, by-reply, Current, Has, has-start, has-shown, Active, active-start, active-enter, State, Answers, Reply}
-use Rattle.safety.proofs.Growth.{of-relay, doer, About}
+use Rattle.safety.proofs.Log.{Ask, Entry, tag, Log, ◌∋◌, state, enter, ask, reply, Shown, by_enter, by_reply, Current, Has, has_start, has_shown, Active, active-start, active_enter, State, Answers, Reply}
+use Rattle.safety.proofs.Growth.{of_relay, doer, About}
 use Rattle.safety.proofs.Entries.{older, past-kind}
 
 -- ---- a relay
@@ -26,18 +26,18 @@ pub record RelayFacts (C : Setting) (l : Log) (k v s : ℕ) (y : Value) (in-view
   pub going : active ≡ true → (o w r : ℕ) (z : Value) → l ∋ state k v o w r z → Inside v w → ⊥
 
 -- what an entry e may add to what is shown of k
-shown-cases : {l : Log} {e : Entry} {k u c : ℕ} {x : Value} {A : Type 0} → Shown (e ∷ l) k u c x
+shown_cases : {l : Log} {e : Entry} {k u c : ℕ} {x : Value} {A : Type 0} → Shown (e ∷ l) k u c x
     → ((o : ℕ) (q : List ℕ) → enter k o u q c x ≡ e → A) → ((d n : ℕ) → reply k d n u c x ≡ e → A) → (Shown l k u c x → A) → A
-shown-cases {l} {e} {k} {u} {c} {x} {A} (by-enter {o = o} {q = q} m) f g h = go (Memᴰ.cases_cons m)
+shown_cases {l} {e} {k} {u} {c} {x} {A} (by_enter {o = o} {q = q} m) f g h = go (Memᴰ.cases_cons m)
   where
     go : (enter k o u q c x ≡ e) ⊎ (l ∋ enter k o u q c x) → A
     go (inl d) = f o q d
-    go (inr m) = h (by-enter m)
-shown-cases {l} {e} {k} {u} {c} {x} {A} (by-reply {d = b} {t = n} m) f g h = go (Memᴰ.cases_cons m)
+    go (inr m) = h (by_enter m)
+shown_cases {l} {e} {k} {u} {c} {x} {A} (by_reply {d = b} {t = n} m) f g h = go (Memᴰ.cases_cons m)
   where
     go : (reply k b n u c x ≡ e) ⊎ (l ∋ reply k b n u c x) → A
     go (inl d) = g b n d
-    go (inr m) = h (by-reply m)
+    go (inr m) = h (by_reply m)
 
 current-raised : {l : Log} {k v s b : ℕ} → Current l k v s → s ≤ b → Current l k v b
 current-raised {v = v} {s = s} {b = b} f g u c x h = go (f u c x h)
@@ -47,90 +47,90 @@ current-raised {v = v} {s = s} {b = b} f g u c x h = go (f u c x h)
     go (inr e) = inr (e.0, omega (arith, e.1))
 
 unshown : {k v s : ℕ} {y : Value} → Shown [] k v s y → ⊥
-unshown (by-enter m) = Memᴰ.not-nil m
-unshown (by-reply m) = Memᴰ.not-nil m
+unshown (by_enter m) = Memᴰ.not-nil m
+unshown (by_reply m) = Memᴰ.not-nil m
 
-shown-more : {l : Log} {e : Entry} {k v s : ℕ} {y : Value} → Shown l k v s y → Shown (e ∷ l) k v s y
-shown-more (by-enter m) = by-enter (Memᴰ.tail m)
-shown-more (by-reply m) = by-reply (Memᴰ.tail m)
+shown_more : {l : Log} {e : Entry} {k v s : ℕ} {y : Value} → Shown l k v s y → Shown (e ∷ l) k v s y
+shown_more (by_enter m) = by_enter (Memᴰ.tail m)
+shown_more (by_reply m) = by_reply (Memᴰ.tail m)
 
 module _ {C : Setting} {l : Log} {k v s : ℕ} {y : Value} {i a : Bool} (r : RelayFacts C l k v s y i a) where
   has_more : {e : Entry} → i ≡ true → Has C (e ∷ l) k v s y
   has_more {e} c = go (r.has c)
     where
       go : Has C l k v s y → Has C (e ∷ l) k v s y
-      go (has-start b c d) = has-start b c d
-      go (has-shown h) = has-shown (shown-more h)
+      go (has_start b c d) = has_start b c d
+      go (has_shown h) = has_shown (shown_more h)
 
-  active-more : {e : Entry} → a ≡ true → Active C (e ∷ l) k v
-  active-more {e} c = go (r.opened c)
+  active_more : {e : Entry} → a ≡ true → Active C (e ∷ l) k v
+  active_more {e} c = go (r.opened c)
     where
       go : Active C l k v → Active C (e ∷ l) k v
       go (active-start b) = active-start b
-      go (active-enter m u) = active-enter (Memᴰ.tail m) u
+      go (active_enter m u) = active_enter (Memᴰ.tail m) u
 
   -- an entry that is not about k
-  pub relay-other : {e : Entry} → (About k e → ⊥) → RelayFacts C (e ∷ l) k v s y i a
-  relay-other {e} n = record {
+  pub relay_other : {e : Entry} → (About k e → ⊥) → RelayFacts C (e ∷ l) k v s y i a
+  relay_other {e} n = record {
     has = has_more;
-    current = λ u b z h. shown-cases h (λ o q c. absurd (other c refl (omega arith))) (λ d m c. absurd (other c refl (omega arith))) (λ h. r.current u b z h);
+    current = λ u b z h. shown_cases h (λ o q c. absurd (other c refl (omega arith))) (λ d m c. absurd (other c refl (omega arith))) (λ h. r.current u b z h);
     handed = λ x o w b z m. r.handed x o w b z (older (λ c. other c refl (omega arith)) m);
-    opened = active-more;
+    opened = active_more;
     going = λ c o w b z m j. r.going c o w b z (older (λ c. other c refl (omega arith)) m) j;
   }
     where
-      other : {f : Entry} → f ≡ e → doer f ≡ of-relay k → 3 < tag f → ⊥
+      other : {f : Entry} → f ≡ e → doer f ≡ of_relay k → 3 < tag f → ⊥
       other c h i = n (rw c at h, rw c at i)
 
   -- k enters w
-  pub relay-enter : {o w b : ℕ} {z : Value} {q : List ℕ} {opens : Bool} → Inside v w → (opens ≡ true → Single w q)
+  pub relay_enter : {o w b : ℕ} {z : Value} {q : List ℕ} {opens : Bool} → Inside v w → (opens ≡ true → Single w q)
       → RelayFacts C (enter k o w q b z ∷ l) k w b z true opens
-  relay-enter {o} {w} {b} {z} {q} j f = record {
-    has = λ c. has-shown (by-enter (Memᴰ.head refl));
-    current = λ u c x h. shown-cases h
+  relay_enter {o} {w} {b} {z} {q} j f = record {
+    has = λ c. has_shown (by_enter (Memᴰ.head refl));
+    current = λ u c x h. shown_cases h
         (λ o' q' d. inr (cc, (let e : c ≡ b = cc in omega arith)))
         (λ d n e. absurd (omega (arith, ap tag e)))
         (λ h. inl (behind (r.current u c x h)));
     handed = λ x o' w' c d m. inr (left (r.handed x o' w' c d (past-kind (omega arith) m)));
-    opened = λ c. active-enter (Memᴰ.head refl) (f c);
+    opened = λ c. active_enter (Memᴰ.head refl) (f c);
     going = λ c o' w' d x m h. absurd (fresh (r.handed w o' w' d x (past-kind (omega arith) m)));
   }
     where
       behind : {u c : ℕ} → Inside u v ⊎ ((u ≡ v) × (c ≤ s)) → Inside u w
-      behind (inl h) = inside-trans h j
+      behind (inl h) = inside_trans h j
       behind (inr h) = subst (λ (x : ℕ). Inside x w) (sym h.0) j
 
       left : {x : ℕ} → (x ≡ v) ⊎ Inside x v → Inside x w
       left (inl e) = subst (λ (x : ℕ). Inside x w) (sym e) j
-      left (inr h) = inside-trans h j
+      left (inr h) = inside_trans h j
 
       fresh : (w ≡ v) ⊎ Inside w v → ⊥
       fresh (inl e) = j.other (sym e)
-      fresh (inr h) = inside-irrefl (inside-trans h j)
+      fresh (inr h) = inside_irrefl (inside_trans h j)
 
   -- k answers
-  pub relay-reply : {d n b : ℕ} {z : Value} → s ≤ b → RelayFacts C (reply k d n v b z ∷ l) k v b z i a
-  relay-reply {d} {n} {b} {z} g = record {
-    has = λ c. has-shown (by-reply (Memᴰ.head refl));
-    current = λ u c x h. shown-cases h
+  pub relay_reply : {d n b : ℕ} {z : Value} → s ≤ b → RelayFacts C (reply k d n v b z ∷ l) k v b z i a
+  relay_reply {d} {n} {b} {z} g = record {
+    has = λ c. has_shown (by_reply (Memᴰ.head refl));
+    current = λ u c x h. shown_cases h
         (λ o' q' d. absurd (omega (arith, ap tag d)))
         (λ d n e. inr (cc, (let e : c ≡ b = cc in omega arith)))
         (λ h. current-raised r.current g u c x h);
     handed = λ x o' w' c d m. r.handed x o' w' c d (past-kind (omega arith) m);
-    opened = active-more;
+    opened = active_more;
     going = λ c o' w' d x m h. r.going c o' w' d x (past-kind (omega arith) m) h;
   }
 
   -- k hands on, and stops where w is beyond its view
-  pub relay-state : {o w : ℕ} {goes : Bool} → (goes ≡ true → (a ≡ true) × (Inside v w → ⊥)) → RelayFacts C (state k v o w s y ∷ l) k v s y i goes
-  relay-state {o} {w} {goes} f = record {
+  pub relay_state : {o w : ℕ} {goes : Bool} → (goes ≡ true → (a ≡ true) × (Inside v w → ⊥)) → RelayFacts C (state k v o w s y ∷ l) k v s y i goes
+  relay_state {o} {w} {goes} f = record {
     has = has_more;
-    current = λ u c x h. shown-cases h
+    current = λ u c x h. shown_cases h
         (λ o' q' d. absurd (omega (arith, ap tag d)))
         (λ d n e. absurd (omega (arith, ap tag e)))
         (λ h. r.current u c x h);
     handed = λ x o' w' c d m. handed (Memᴰ.cases_cons m);
-    opened = λ c. active-more (f c).0;
+    opened = λ c. active_more (f c).0;
     going = λ c o' w' d x m h. going c (Memᴰ.cases_cons m) h;
   }
     where
@@ -143,11 +143,11 @@ module _ {C : Setting} {l : Log} {k v s : ℕ} {y : Value} {i a : Bool} (r : Rel
       going g (inr m) h = r.going (f g).0 _ _ _ _ m h
 
   -- and so its states and answers are justified
-  pub state-justified : {o : ℕ} → i ≡ true → (v ≡ o) ⊎ Inside o v → State C l k v o s y
-  state-justified c h = record { reached = h; has = r.has c; current = r.current }
+  pub state_justified : {o : ℕ} → i ≡ true → (v ≡ o) ⊎ Inside o v → State C l k v o s y
+  state_justified c h = record { reached = h; has = r.has c; current = r.current }
 
-  pub reply-justified : {d n m b : ℕ} {z : Value} {x : Ask} → a ≡ true → l ∋ ask d n m v x → s ≤ b → Answers C l k v b z x → Reply C l k d n v b z
-  reply-justified {m = m} {x = x} c h g f = record {
+  pub reply_justified : {d n m b : ℕ} {z : Value} {x : Ask} → a ≡ true → l ∋ ask d n m v x → s ≤ b → Answers C l k v b z x → Reply C l k d n v b z
+  reply_justified {m = m} {x = x} c h g f = record {
     try = m;
     asked = x;
     to = h;
@@ -158,17 +158,17 @@ module _ {C : Setting} {l : Log} {k v s : ℕ} {y : Value} {i a : Bool} (r : Rel
   }
 
 -- at the start: a member of the start view, and another relay
-pub relay-starts : (C : Setting) (k : ℕ) → RelayFacts C [] k C.view 0 noValue true true
-relay-starts C k = record {
-  has = λ c. has-start refl refl refl;
+pub relay_starts : (C : Setting) (k : ℕ) → RelayFacts C [] k C.view 0 no_value true true
+relay_starts C k = record {
+  has = λ c. has_start refl refl refl;
   current = λ u c x h. absurd (unshown h);
   handed = λ x o w c z m. absurd (Memᴰ.not-nil m);
   opened = λ c. active-start refl;
   going = λ c o w b z m. absurd (Memᴰ.not-nil m);
 }
 
-pub relay-waits : (C : Setting) (k : ℕ) → RelayFacts C [] k 0 0 noValue false false
-relay-waits C k = record {
+pub relay_waits : (C : Setting) (k : ℕ) → RelayFacts C [] k 0 0 no_value false false
+relay_waits C k = record {
   has = λ c. absurd (false≢true c);
   current = λ u c x h. absurd (unshown h);
   handed = λ x o w c z m. absurd (Memᴰ.not-nil m);

@@ -5,7 +5,7 @@ use mathlib.Core.Path.{◌≡◌, subst}
 use mathlib.Core.Logic.{◌≢◌, ◌⊎◌, inl, inr}
 use mathlib.Core.List.{List, Memᴰ}
 use Prim.Native.Nat.{ℕ}
-use Rattle.views.proofs.Sets.{Inside, inside-trans}
+use Rattle.views.proofs.Sets.{Inside, inside_trans}
 
 infix 20 ◌∈◌ ◌⊆◌
 abbrev pub ◌∈◌ : ℕ → List ℕ → Type 0
@@ -54,24 +54,24 @@ Chain S = (p q : List ℕ) → S p → S q → Nested p q
 
 -- ---- laws
 
-pub single-least : {v : ℕ} {q : List ℕ} → Single v q → Least v q
-single-least s = record { has = s.has; least = λ w m. inl (s.only w m) }
+pub single_least : {v : ℕ} {q : List ℕ} → Single v q → Least v q
+single_least s = record { has = s.has; least = λ w m. inl (s.only w m) }
 
 -- what is inside the least view is inside all of them
-pub above-least : {u v : ℕ} {q : List ℕ} → Inside u v → Least v q → Above u q
-above-least {u} {v} i l w m = go (l.least w m)
+pub above_least : {u v : ℕ} {q : List ℕ} → Inside u v → Least v q → Above u q
+above_least {u} {v} i l w m = go (l.least w m)
   where
     go : (v ≡ w) ⊎ Inside v w → Inside u w
     go (inl e) = subst (λ (x : ℕ). Inside u x) e i
-    go (inr j) = inside-trans i j
+    go (inr j) = inside_trans i j
 
-pub above-inside : {u v : ℕ} {q : List ℕ} → Inside u v → Above v q → Above u q
-above-inside i h w m = inside-trans i (h w m)
+pub above_inside : {u v : ℕ} {q : List ℕ} → Inside u v → Above v q → Above u q
+above_inside i h w m = inside_trans i (h w m)
 
 -- v is not in q where all of q is above v
-pub above-not : {v w : ℕ} {q : List ℕ} → Above v q → w ∈ q → v ≢ w
-above-not h m e = (h _ m).other e
+pub above_not : {v w : ℕ} {q : List ℕ} → Above v q → w ∈ q → v ≢ w
+above_not h m e = (h _ m).other e
 
-pub without-nested : {v : ℕ} {p q p' q' : List ℕ} → Without v q p → Without v q' p' → Nested q q' → Nested p p'
-without-nested x y (inl h) = inl (λ w m. y.kept w (h w (x.from w m)) (x.gone w m))
-without-nested x y (inr h) = inr (λ w m. x.kept w (h w (y.from w m)) (y.gone w m))
+pub without_nested : {v : ℕ} {p q p' q' : List ℕ} → Without v q p → Without v q' p' → Nested q q' → Nested p p'
+without_nested x y (inl h) = inl (λ w m. y.kept w (h w (x.from w m)) (x.gone w m))
+without_nested x y (inr h) = inr (λ w m. x.kept w (h w (y.from w m)) (y.gone w m))

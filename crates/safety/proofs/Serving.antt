@@ -9,29 +9,29 @@ use native.Mathlib.Omega.{arith}
 use lib.Dec.{eqb}
 use borrow.Author.Tests.{eqb-true, not-false}
 use Rattle.views.proofs.Truth.{contrary, cases, either_true}
-use Rattle.views.proofs.Digits.{bit-one}
+use Rattle.views.proofs.Digits.{bit_one}
 use Rattle.rules.specs.Sets.{inside}
 use Rattle.rules.specs.Stamps.{Pair}
-use Rattle.rules.specs.Messages.{Body, request, view, proposal, converged, install, state as stateSays, get as getSays, put as putSays, viewReply, pairReply, ack, toOne, sends}
-use Rattle.rules.specs.State.{Relay, withHolds}
-use Rattle.rules.specs.Generators.{generatorFor, proposalHeard, convergedHeard}
-use Rattle.rules.specs.Relays.{serves, getHeard, putHeard, relayHears}
+use Rattle.rules.specs.Messages.{Body, request, view, proposal, converged, install, state as state_says, get as get_says, put as put_says, view_reply, pair_reply, ack, to_one, sends}
+use Rattle.rules.specs.State.{Relay, with_holds}
+use Rattle.rules.specs.Generators.{generator_for, proposal_heard, converged_heard}
+use Rattle.rules.specs.Relays.{serves, get_heard, put_heard, relay_hears}
 use Rattle.safety.proofs.Setting.{Setting}
 use Rattle.safety.proofs.Lists.{All, all_none, all_more}
-use Rattle.safety.proofs.Numbers.{num, Small, Greater, takes, stays, greatest-num}
+use Rattle.safety.proofs.Numbers.{num, Small, Greater, takes, stays, greatest_num}
 use Rattle.safety.proofs.Log.{tag, Ask, get, put, Log, ◌∋◌, ask, reply, Answers, got, kept, stored, Sound}
 use Rattle.safety.proofs.Past.{sound_more}
 use Rattle.safety.proofs.Growth.{stay, add, one_more}
-use Rattle.safety.proofs.RelayFacts.{relay-reply, reply-justified}
+use Rattle.safety.proofs.RelayFacts.{relay_reply, reply_justified}
 use Rattle.safety.proofs.Ties.{RelayTied, Backed, SendingBacked}
-use Rattle.safety.proofs.Grown.{transfers-since, generators-more, sent-alike}
+use Rattle.safety.proofs.Grown.{transfers_since, generators_more, sent_alike}
 use Rattle.safety.proofs.Turns.{proposal-done, converged-done}
-use Rattle.safety.proofs.RelaySteps.{RelayDone, at-generator, sends-only, nothing-done, request-done, view-done}
+use Rattle.safety.proofs.RelaySteps.{RelayDone, at_generator_lem, sends-only, nothing-done, request-done, view-done}
 use Rattle.safety.proofs.Entering.{install-done, state-done}
 
 -- to one receiver
-sent-one : (l : Log) (k from : ℕ) (b : Body) → Backed l k from b → All (SendingBacked l k) (toOne from b ∷ [])
-sent-one l k from b h = all_more {x = toOne from b} (λ n e. subst (λ (i : ℕ). Backed l k i b) (sym (eqb-true n from (sym (bit-one n from) ∙ e))) h) all_none
+sent_one : (l : Log) (k from : ℕ) (b : Body) → Backed l k from b → All (SendingBacked l k) (to_one from b ∷ [])
+sent_one l k from b h = all_more {x = to_one from b} (λ n e. subst (λ (i : ℕ). Backed l k i b) (sym (eqb-true n from (sym (bit_one n from) ∙ e))) h) all_none
 
 module _ {C : Setting} {l : Log} {k : ℕ} (S : Sound C l) (r : Relay) (h : RelayTied C l k r) where
   -- an active relay serves its own view c, where c is not inside it
@@ -46,81 +46,81 @@ module _ {C : Setting} {l : Log} {k : ℕ} (S : Sound C l) (r : Relay) (h : Rela
     abbrev answering : Log
     answering = reply k d t r.view (num p.stamp) p.value ∷ l
 
-    answered : (r' : Relay) (b : Body) → RelayTied C answering k r' → Backed answering k (8 + d) b → RelayDone C l k (sends r' (toOne (8 + d) b ∷ []))
+    answered : (r' : Relay) (b : Body) → RelayTied C answering k r' → Backed answering k (8 + d) b → RelayDone C l k (sends r' (to_one (8 + d) b ∷ []))
     answered r' b g w = record {
       log = answering;
       since = add {e = reply k d t r.view (num p.stamp) p.value} (inl refl) stay;
-      sound = sound_more _ S (reply-justified h.facts a q up f);
+      sound = sound_more _ S (reply_justified h.facts a q up f);
       tied = g;
-      sent = sent-one answering k (8 + d) b w;
+      sent = sent_one answering k (8 + d) b w;
       tells = tt;
     }
 
-    holds-tied : RelayTied C answering k (withHolds r p)
-    unfolding withHolds
-    holds-tied = record {
-      facts = relay-reply h.facts up;
+    holds_tied : RelayTied C answering k (with_holds r p)
+    unfolding with_holds
+    holds_tied = record {
+      facts = relay_reply h.facts up;
       outside = h.outside;
       inside = h.inside;
       small = s;
-      view-small = h.view-small;
+      view_small = h.view_small;
       updates = h.updates;
-      generators = generators-more r.generators (λ v q c. omega (arith, ap tag c)) h.generators;
-      transfers = transfers-since one_more h.transfers;
+      generators = generators_more r.generators (λ v q c. omega (arith, ap tag c)) h.generators;
+      transfers = transfers_since one_more h.transfers;
     }
 
-  view-sent : (from t : ℕ) → RelayDone C l k (sends r (toOne from (viewReply t r.view) ∷ []))
-  view-sent from t = sends-only S r _ h (sent-alike l k (toOne from (viewReply t r.view)) (λ n. tt))
+  view-sent : (from t : ℕ) → RelayDone C l k (sends r (to_one from (view_reply t r.view) ∷ []))
+  view-sent from t = sends-only S r _ h (sent_alike l k (to_one from (view_reply t r.view)) (λ n. tt))
 
   -- "If equal: Get replies stamp and value;"
-  get-done : (from t c : ℕ) → Backed l from k (getSays t c) → RelayDone C l k (getHeard r from t c)
-  unfolding getHeard withHolds
+  get-done : (from t c : ℕ) → Backed l from k (get_says t c) → RelayDone C l k (get_heard r from t c)
+  unfolding get_heard with_holds
   get-done from t c b =
       cases (RelayDone C l k) (not (serves r c)) (λ e. tt)
       (λ e. cases (RelayDone C l k) (inside c r.view) (λ i. view-sent from t) (λ i. go (own_view c (not-false _ e) i)))
     where
-      go : (r.active ≡ true) × (r.view ≡ c) → RelayDone C l k (sends r (toOne from (pairReply t r.holds) ∷ []))
+      go : (r.active ≡ true) × (r.view ≡ c) → RelayDone C l k (sends r (to_one from (pair_reply t r.holds) ∷ []))
       go o =
           let q : l ∋ ask b.0 t b.1 r.view get = rw o.1 b.3 in
           let f : Answers C l k r.view (num r.holds.stamp) r.holds.value get = got (h.facts.has (h.inside o.0)) in
-          rw b.2 (answered r.holds o.0 q (omega arith) f h.small r (pairReply t r.holds) (holds-tied r.holds o.0 q (omega arith) f h.small)
+          rw b.2 (answered r.holds o.0 q (omega arith) f h.small r (pair_reply t r.holds) (holds_tied r.holds o.0 q (omega arith) f h.small)
           (b.0, r.view, refl, Memᴰ.head refl, h.small))
 
   -- "Put stores if its stamp is greater, and acknowledges either way."
-  put-done : (from t c : ℕ) (p : Pair) → Backed l from k (putSays t c p) → RelayDone C l k (putHeard r from t c p)
-  unfolding putHeard
+  put-done : (from t c : ℕ) (p : Pair) → Backed l from k (put_says t c p) → RelayDone C l k (put_heard r from t c p)
+  unfolding put_heard
   put-done from t c p b =
       cases (RelayDone C l k) (not (serves r c)) (λ e. tt)
       (λ e. cases (RelayDone C l k) (inside c r.view) (λ i. view-sent from t)
-      (λ i. go (own_view c (not-false _ e) i) (greatest-num r.holds p h.small b.4)))
+      (λ i. go (own_view c (not-false _ e) i) (greatest_num r.holds p h.small b.4)))
     where
       put-asked : (r.active ≡ true) × (r.view ≡ c) → l ∋ ask b.0 t b.1 r.view (put (num p.stamp) p.value)
       put-asked o = rw o.1 b.3
 
       acked : (x : Pair) {a : Ask} → (o : (r.active ≡ true) × (r.view ≡ c)) → l ∋ ask b.0 t b.1 r.view a → num r.holds.stamp ≤ num x.stamp
-          → Answers C l k r.view (num x.stamp) x.value a → Small x → RelayDone C l k (sends (withHolds r x) (toOne from (ack t) ∷ []))
+          → Answers C l k r.view (num x.stamp) x.value a → Small x → RelayDone C l k (sends (with_holds r x) (to_one from (ack t) ∷ []))
       acked x o q up f s =
-          rw b.2 (answered x o.0 q up f s (withHolds r x) (ack t) (holds-tied x o.0 q up f s)
+          rw b.2 (answered x o.0 q up f s (with_holds r x) (ack t) (holds_tied x o.0 q up f s)
           (b.0, r.view, refl, num x.stamp, x.value, Memᴰ.head refl))
 
-      go : {x : Pair} → (r.active ≡ true) × (r.view ≡ c) → Greater r.holds p x → RelayDone C l k (sends (withHolds r x) (toOne from (ack t) ∷ []))
+      go : {x : Pair} → (r.active ≡ true) × (r.view ≡ c) → Greater r.holds p x → RelayDone C l k (sends (with_holds r x) (to_one from (ack t) ∷ []))
       go o (takes g) = acked p o (put-asked o) (omega arith) stored b.4
       go o (stays g) = acked r.holds o (put-asked o) (omega arith) (kept (h.facts.has (h.inside o.0)) g) h.small
 
   -- ---- a message from `from` comes to the relay k
 
-  pub relay-hears : (from : ℕ) (b : Body) → Backed l from k b → RelayDone C l k (relayHears k r from b)
-  unfolding relayHears
-  relay-hears from (request u c) b = request-done S r from u c b h
-  relay-hears from (view v) b = view-done S r v h
-  relay-hears from (proposal v q) b =
-      at-generator r (proposalHeard (generatorFor v r.generators) from q) h (proposal-done S from (generatorFor v r.generators) (h.generators v) b.0 b.1)
-  relay-hears from (converged v q) b =
-      at-generator r (convergedHeard (generatorFor v r.generators) from q) h (converged-done S from (generatorFor v r.generators) (h.generators v) b.0 b.1)
-  relay-hears from (install o w q) b = install-done S r o w h q b
-  relay-hears from (stateSays o w p u) b = state-done S r from o w p u h (b.0, b.1) b.2 b.3
-  relay-hears from (getSays t c) b = get-done from t c b
-  relay-hears from (putSays t c p) b = put-done from t c p b
-  relay-hears from (viewReply t v) b = nothing-done S r h
-  relay-hears from (pairReply t p) b = nothing-done S r h
-  relay-hears from (ack t) b = nothing-done S r h
+  pub relay_hears_lem : (from : ℕ) (b : Body) → Backed l from k b → RelayDone C l k (relay_hears k r from b)
+  unfolding relay_hears
+  relay_hears_lem from (request u c) b = request-done S r from u c b h
+  relay_hears_lem from (view v) b = view-done S r v h
+  relay_hears_lem from (proposal v q) b =
+      at_generator_lem r (proposal_heard (generator_for v r.generators) from q) h (proposal-done S from (generator_for v r.generators) (h.generators v) b.0 b.1)
+  relay_hears_lem from (converged v q) b =
+      at_generator_lem r (converged_heard (generator_for v r.generators) from q) h (converged-done S from (generator_for v r.generators) (h.generators v) b.0 b.1)
+  relay_hears_lem from (install o w q) b = install-done S r o w h q b
+  relay_hears_lem from (state_says o w p u) b = state-done S r from o w p u h (b.0, b.1) b.2 b.3
+  relay_hears_lem from (get_says t c) b = get-done from t c b
+  relay_hears_lem from (put_says t c p) b = put-done from t c p b
+  relay_hears_lem from (view_reply t v) b = nothing-done S r h
+  relay_hears_lem from (pair_reply t p) b = nothing-done S r h
+  relay_hears_lem from (ack t) b = nothing-done S r h

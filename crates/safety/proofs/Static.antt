@@ -8,18 +8,18 @@ use Rattle.safety.proofs.Past.{now}
 use Rattle.safety.proofs.Agreement.{active-entered}
 use Rattle.safety.proofs.Stay.{comparable}
 use Rattle.safety.proofs.Order.{Ops, Order, Descending}
-use Rattle.safety.proofs.OneOrder.{one-order}
+use Rattle.safety.proofs.OneOrder.{one_order}
 
 pub record Demand3 (C : Setting) (t : Log) : Type 0 where
-  pub one-chain : {j k u v : ℕ} → Active C t j u → Active C t k v → Comparable u v
+  pub one_chain : {j k u v : ℕ} → Active C t j u → Active C t k v → Comparable u v
   pub order : Ops
   pub is-order : Order t order
   pub stamps : Descending order
 
 pub demand3 : {C : Setting} {t : Log} → Sound C t → Demand3 C t
 demand3 S = record {
-  one-chain = λ {j} {k} {u} {v} a b. comparable S (active-entered S now a) (active-entered S now b);
-  order = (one-order S).0;
-  is-order = (one-order S).1;
-  stamps = (one-order S).2;
+  one_chain = λ {j} {k} {u} {v} a b. comparable S (active-entered S now a) (active-entered S now b);
+  order = (one_order S).0;
+  is-order = (one_order S).1;
+  stamps = (one_order S).2;
 }

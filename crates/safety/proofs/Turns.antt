@@ -11,26 +11,26 @@ use lib.ListN.{length, get_or, set, length-set, get_or-eq_default}
 use lib.Seq.{get_or-set_same, get_or-set_other}
 use borrow.Author.Tests.{eqb-true, not-true}
 use Rattle.views.specs.Choice.{if◌then◌else◌}
-use Rattle.views.specs.View.{bit_of, reachesOf}
-use Rattle.views.specs.Chain.{has_of, lacksOf, sameOf, leastOf, heardOf}
+use Rattle.views.specs.View.{bit_of, reaches_of}
+use Rattle.views.specs.Chain.{has_of, lacks_of, same_of, least_of, heard_of}
 use Rattle.views.proofs.Truth.{contrary, cases, decided}
-use Rattle.views.proofs.Digits.{digit, digit-shr, bit-fact, bit_test, bit-none}
-use Rattle.views.proofs.Among.{has_first, lacks-fact, lacks-test, lacks-self, same-fact, same_self}
-use Rattle.views.proofs.Merge.{heard-contains}
+use Rattle.views.proofs.Digits.{digit, digit_shr, bit_fact, bit_test, bit_none}
+use Rattle.views.proofs.Among.{has_first, lacks_fact, lacks_test, lacks_self, same_fact, same_self}
+use Rattle.views.proofs.Merge.{heard_contains}
 use Rattle.rules.specs.Sets.{none, same}
-use Rattle.rules.specs.Messages.{proposal, converged, install, toMembers, toBoth}
+use Rattle.rules.specs.Messages.{proposal, converged, install, to_members, to_both}
 use Rattle.rules.specs.State.{Generator}
-use Rattle.rules.specs.Generators.{Turn, withOwn, proposes, oneIf, agreeing, agree, hears, settles, proposalHeard, notesConverged, raises, convergedHeard}
+use Rattle.rules.specs.Generators.{Turn, with_own, proposes, one_if, agreeing, agree, hears, settles, proposal_heard, notes_converged, raises, converged_heard}
 use Rattle.safety.proofs.Setting.{Setting}
 use Rattle.safety.proofs.Lists.{All, all_none, all_append}
 use Rattle.safety.proofs.Sequences.{◌⊆◌}
-use Rattle.safety.proofs.Bridge.{has_in, in-has, nil-lacks, Kept, kept_full, full-none, none-nil, full-kept, kept-sequence, kept_above, heard-kept, heard-merge}
-use Rattle.safety.proofs.Log.{tag, Log, ◌∋◌, first, own, conv, raise, First, own_first, own-merge, Raise, Sound}
+use Rattle.safety.proofs.Bridge.{has_in, in_has, nil_lacks, Kept, kept_full, full-none, none_nil, full-kept, kept-sequence, kept_above, heard_kept, heard_merge}
+use Rattle.safety.proofs.Log.{tag, Log, ◌∋◌, first, own, conv, raise, First, own_first, own_merge, Raise, Sound}
 use Rattle.safety.proofs.Past.{sound_more}
-use Rattle.safety.proofs.Growth.{Since, stay, add, since-join, Turning}
-use Rattle.safety.proofs.GeneratorFacts.{generator-own, conv-justified, generator-conv}
+use Rattle.safety.proofs.Growth.{Since, stay, add, since_join, Turning}
+use Rattle.safety.proofs.GeneratorFacts.{generator_own_lem, conv_justified, generator_conv}
 use Rattle.safety.proofs.Ties.{GeneratorTied, SendingBacked}
-use Rattle.safety.proofs.Grown.{generator-more, sendings-since, sent-alike}
+use Rattle.safety.proofs.Grown.{generator_more, sendings_since, sent_alike}
 
 pub record TurnDone (C : Setting) (l : Log) (k v : ℕ) (t : Turn) : Type 0 where
   pub log : Log
@@ -40,29 +40,29 @@ pub record TurnDone (C : Setting) (l : Log) (k v : ℕ) (t : Turn) : Type 0 wher
   pub sent : All (SendingBacked log k) t.sendings
 
 -- who agrees: a bit of the mask says that the note is q
-agreeing-bit : (ns : List (List ℕ)) (q : List ℕ) (k : ℕ) → bit_of (agreeing ns q) k ≡ true → get_or ns k [] ≡ q
+agreeing_bit : (ns : List (List ℕ)) (q : List ℕ) (k : ℕ) → bit_of (agreeing ns q) k ≡ true → get_or ns k [] ≡ q
 unfolding agreeing digit
-agreeing-bit [] q k e = absurd (contrary e (bit-none k))
-agreeing-bit (n ∷ ns) q zero e = same-fact n q (go (same n q) (eqb-true _ 1 e))
+agreeing_bit [] q k e = absurd (contrary e (bit_none k))
+agreeing_bit (n ∷ ns) q zero e = same_fact n q (go (same n q) (eqb-true _ 1 e))
   where
-    go : (b : Bool) → (agreeing ns q * 2 + oneIf b) / 2 ^ 0 % 2 ≡ 1 → b ≡ true
+    go : (b : Bool) → (agreeing ns q * 2 + one_if b) / 2 ^ 0 % 2 ≡ 1 → b ≡ true
     go true h = refl
     go false h = absurd (omega arith)
-agreeing-bit (n ∷ ns) q (suc k) e =
-    agreeing-bit ns q k (bit_test (agreeing ns q) k (sym (ap (digit k) (half (same n q))) ∙ digit-shr k 1 (agreeing (n ∷ ns) q) ∙ ap (λ (i : ℕ). digit i (agreeing (n ∷ ns) q)) one ∙ bit-fact (agreeing (n ∷ ns) q) (suc k) e))
+agreeing_bit (n ∷ ns) q (suc k) e =
+    agreeing_bit ns q k (bit_test (agreeing ns q) k (sym (ap (digit k) (half (same n q))) ∙ digit_shr k 1 (agreeing (n ∷ ns) q) ∙ ap (λ (i : ℕ). digit i (agreeing (n ∷ ns) q)) one ∙ bit_fact (agreeing (n ∷ ns) q) (suc k) e))
   where
     one : 1 + k ≡ suc k
     one = omega arith
 
-    half : (b : Bool) → (agreeing ns q * 2 + oneIf b) / 2 ^ 1 ≡ agreeing ns q
+    half : (b : Bool) → (agreeing ns q * 2 + one_if b) / 2 ^ 1 ≡ agreeing ns q
     half true = omega arith
     half false = omega arith
 
 module _ {C : Setting} {l : Log} {k v : ℕ} (S : Sound C l) where
   -- "Propose q for v: if v's generator has an empty own sequence, it becomes q and goes as proposal to all members of v, oneself too; else nothing."
   pub proposes-done : {q : List ℕ} (g : Generator) → GeneratorTied l k v g → First C l k v q → Kept v q → TurnDone C l k v (proposes g q)
-  unfolding proposes withOwn
-  proposes-done {q} g G j h = cases (TurnDone C l k v) (none g.own) (λ e. go (none-nil g.own e)) (λ e. record {
+  unfolding proposes with_own
+  proposes-done {q} g G j h = cases (TurnDone C l k v) (none g.own) (λ e. go (none_nil g.own e)) (λ e. record {
     log = l;
     since = stay;
     sound = S;
@@ -70,53 +70,53 @@ module _ {C : Setting} {l : Log} {k v : ℕ} (S : Sound C l) where
     sent = all_none;
   })
     where
-      go : g.own ≡ [] → TurnDone C l k v (record { next = withOwn g q; sendings = toMembers g.view (proposal g.view q) ∷ [] })
+      go : g.own ≡ [] → TurnDone C l k v (record { next = with_own g q; sendings = to_members g.view (proposal g.view q) ∷ [] })
       go e =
-          let G1 = generator-more {e = first k v q} (λ p c. omega (arith, ap tag c)) G in
-          let G2 = generator-more {e = own k v q} (λ p c. omega (arith, ap tag c)) G1 in
+          let G1 = generator_more {e = first k v q} (λ p c. omega (arith, ap tag c)) G in
+          let G2 = generator_more {e = own k v q} (λ p c. omega (arith, ap tag c)) G1 in
           record {
             log = own k v q ∷ first k v q ∷ l;
             since = add {e = own k v q} (inl refl, omega arith, λ u z c. cc) (add {e = first k v q} (inl refl, omega arith, λ u z c. cc) stay);
             sound = sound_more (own k v q) (sound_more (first k v q) S j) (record { sequence = kept-sequence h; above = kept_above h; from = own_first (Memᴰ.head refl) });
             tied = record {
               view-is = G.view-is;
-              facts = generator-own G1.facts;
+              facts = generator_own_lem G1.facts;
               own-rises = h.rising;
-              conv-rises = G.conv-rises;
-              contained = lacks-test g.converged q (λ x i. absurd (nil-lacks x (lacks-fact g.converged g.own G.contained x i) e));
+              conv_rises = G.conv_rises;
+              contained = lacks_test g.converged q (λ x i. absurd (nil_lacks x (lacks_fact g.converged g.own G.contained x i) e));
               heard = G2.heard;
             };
-            sent = sent-alike (own k v q ∷ first k v q ∷ l) k (toMembers g.view (proposal g.view q)) (λ n. rw G.view-is (Memᴰ.head refl, h));
+            sent = sent_alike (own k v q ∷ first k v q ∷ l) k (to_members g.view (proposal g.view q)) (λ n. rw G.view-is (Memᴰ.head refl, h));
           }
 
   -- "Proposal(v, q): note it for the sender. If q has a view that own lacks: ..  Send the new own to all members."
   hears-done : {q : List ℕ} (from : ℕ) (g : Generator) → GeneratorTied l k v g → l ∋ own from v q → Kept v q → TurnDone C l k v (hears g from q)
-  unfolding hears heardOf
-  hears-done {q} from g G m h = ⊎_elim more less (decided (lacksOf q g.own))
+  unfolding hears heard_of
+  hears-done {q} from g G m h = ⊎_elim more less (decided (lacks_of q g.own))
     where
-      more : lacksOf q g.own ≡ true → TurnDone C l k v (hears g from q)
+      more : lacks_of q g.own ≡ true → TurnDone C l k v (hears g from q)
       more e =
-          let p : List ℕ = heardOf g.own g.converged q in
-          let K : Kept v p = heard-kept g.own g.converged q G.own-rises G.conv-rises h.rising G.contained e in
-          let M = heard-merge g.own g.converged q G.own-rises G.conv-rises h.rising G.contained e in
-          let G1 = generator-more {e = own k v p} (λ z c. omega (arith, ap tag c)) G in
+          let p : List ℕ = heard_of g.own g.converged q in
+          let K : Kept v p = heard_kept g.own g.converged q G.own-rises G.conv_rises h.rising G.contained e in
+          let M = heard_merge g.own g.converged q G.own-rises G.conv_rises h.rising G.contained e in
+          let G1 = generator_more {e = own k v p} (λ z c. omega (arith, ap tag c)) G in
           record {
             log = own k v p ∷ l;
             since = add {e = own k v p} (inl refl, omega arith, λ u z c. cc) stay;
-            sound = sound_more (own k v p) S (record { sequence = kept-sequence K; above = kept_above K; from = own-merge G.facts.own_is m M });
+            sound = sound_more (own k v p) S (record { sequence = kept-sequence K; above = kept_above K; from = own_merge G.facts.own_is m M });
             tied = record {
               view-is = G.view-is;
-              facts = generator-own G.facts;
+              facts = generator_own_lem G.facts;
               own-rises = K.rising;
-              conv-rises = G.conv-rises;
-              contained = heard-contains g.own g.converged q G.contained;
+              conv_rises = G.conv_rises;
+              contained = heard_contains g.own g.converged q G.contained;
               heard = G1.heard;
             };
-            sent = subst (λ (b : Bool). All (SendingBacked (own k v p ∷ l) k) (if b then toMembers g.view (proposal g.view p) ∷ [] else [])) (sym e)
-                (sent-alike (own k v p ∷ l) k (toMembers g.view (proposal g.view p)) (λ n. rw G.view-is (Memᴰ.head refl, K)));
+            sent = subst (λ (b : Bool). All (SendingBacked (own k v p ∷ l) k) (if b then to_members g.view (proposal g.view p) ∷ [] else [])) (sym e)
+                (sent_alike (own k v p ∷ l) k (to_members g.view (proposal g.view p)) (λ n. rw G.view-is (Memᴰ.head refl, K)));
           }
 
-      less : lacksOf q g.own ≡ false → TurnDone C l k v (hears g from q)
+      less : lacks_of q g.own ≡ false → TurnDone C l k v (hears g from q)
       less e = record {
         log = l;
         since = stay;
@@ -125,7 +125,7 @@ module _ {C : Setting} {l : Log} {k v : ℕ} (S : Sound C l) where
           view-is = G.view-is;
           facts = G.facts;
           own-rises = G.own-rises;
-          conv-rises = G.conv-rises;
+          conv_rises = G.conv_rises;
           contained = G.contained;
           heard = G.heard;
         });
@@ -141,32 +141,32 @@ module _ {C : Setting} {l : Log} {k v : ℕ} (S : Sound C l) where
     where
       -- an empty own sequence would contain no other converged one
       full : same g.own g.converged ≡ false → g.own ≡ [] → ⊥
-      full e z = contrary (rw z (empty g.converged (λ x i. nil-lacks x (lacks-fact g.converged g.own G.contained x i) z))) e
+      full e z = contrary (rw z (empty g.converged (λ x i. nil_lacks x (lacks_fact g.converged g.own G.contained x i) z))) e
         where
-          empty : (c : List ℕ) → ((x : ℕ) → has_of c x ≡ true → ⊥) → sameOf [] c ≡ true
+          empty : (c : List ℕ) → ((x : ℕ) → has_of c x ≡ true → ⊥) → same_of [] c ≡ true
           empty [] f = same_self []
           empty (w ∷ c) f = absurd (f w (has_first w c))
 
       grows : g.converged ⊆ g.own
-      grows w i = has_in g.own w (lacks-fact g.converged g.own G.contained w (in-has i))
+      grows w i = has_in g.own w (lacks_fact g.converged g.own G.contained w (in_has i))
 
       go : same g.own g.converged ≡ false → TurnDone C l k v (record {
         next = record { view = g.view; own = g.own; converged = g.own; raised = g.raised; proposals = g.proposals; convergences = g.convergences };
-        sendings = toMembers g.view (converged g.view g.own) ∷ [];
+        sendings = to_members g.view (converged g.view g.own) ∷ [];
       })
       go e = record {
         log = conv k v g.own ∷ l;
         since = add {e = conv k v g.own} (inl refl, omega arith, λ u z c. cc) stay;
-        sound = sound_more (conv k v g.own) S (conv-justified G.facts (full e) grows);
+        sound = sound_more (conv k v g.own) S (conv_justified G.facts (full e) grows);
         tied = record {
           view-is = G.view-is;
-          facts = generator-conv G.facts (full e) grows;
+          facts = generator_conv G.facts (full e) grows;
           own-rises = G.own-rises;
-          conv-rises = G.own-rises;
-          contained = lacks-self g.own;
+          conv_rises = G.own-rises;
+          contained = lacks_self g.own;
           heard = λ j. later (G.heard j);
         };
-        sent = sent-alike (conv k v g.own ∷ l) k (toMembers g.view (converged g.view g.own)) (λ n. rw G.view-is (Memᴰ.head refl, full-kept G.own-rises (full-none (full e))));
+        sent = sent_alike (conv k v g.own ∷ l) k (to_members g.view (converged g.view g.own)) (λ n. rw G.view-is (Memᴰ.head refl, full-kept G.own-rises (full-none (full e))));
       }
         where
           later : {j : ℕ} {q : List ℕ} → (q ≡ []) ⊎ (l ∋ conv j v q) → (q ≡ []) ⊎ ((conv k v g.own ∷ l) ∋ conv j v q)
@@ -174,13 +174,13 @@ module _ {C : Setting} {l : Log} {k v : ℕ} (S : Sound C l) where
           later (inr m) = inr (Memᴰ.tail m)
 
   -- "Converged(v, q): note it."
-  notes-tied : {q : List ℕ} (from : ℕ) (g : Generator) → GeneratorTied l k v g → l ∋ conv from v q → GeneratorTied l k v (notesConverged g from q)
-  unfolding notesConverged
-  notes-tied {q} from g G m = record {
+  notes_tied : {q : List ℕ} (from : ℕ) (g : Generator) → GeneratorTied l k v g → l ∋ conv from v q → GeneratorTied l k v (notes_converged g from q)
+  unfolding notes_converged
+  notes_tied {q} from g G m = record {
     view-is = G.view-is;
     facts = G.facts;
     own-rises = G.own-rises;
-    conv-rises = G.conv-rises;
+    conv_rises = G.conv_rises;
     contained = G.contained;
     heard = λ j. go j (ℕ_discrete j from) (dec_lt from (length g.convergences));
   }
@@ -193,17 +193,17 @@ module _ {C : Setting} {l : Log} {k v : ℕ} (S : Sound C l) where
 
   -- "If a quorum's last notes equal q and q is not the last raised, raise it: install(v, least(q), q) goes to all who are members of v or of least(q)."
   pub converged-done : {q : List ℕ} (from : ℕ) (g : Generator) → GeneratorTied l k v g → l ∋ conv from v q → Kept v q
-      → TurnDone C l k v (convergedHeard g from q)
-  unfolding convergedHeard raises
+      → TurnDone C l k v (converged_heard g from q)
+  unfolding converged_heard raises
   converged-done {q} from g G m h =
-      let H = notes-tied from g G m in
-      cases (TurnDone C l k v) (agree g.view (notesConverged g from q).convergences q && not (same q g.raised))
+      let H = notes_tied from g G m in
+      cases (TurnDone C l k v) (agree g.view (notes_converged g from q).convergences q && not (same q g.raised))
       (λ e. go H ((and-eq-true_iff _ _).0 e).0) (λ e. record { log = l; since = stay; sound = S; tied = H; sent = all_none })
     where
-      go : GeneratorTied l k v (notesConverged g from q) → reachesOf g.view (agreeing (notesConverged g from q).convergences q) ≡ true
+      go : GeneratorTied l k v (notes_converged g from q) → reaches_of g.view (agreeing (notes_converged g from q).convergences q) ≡ true
           → TurnDone C l k v (record {
-            next = raises (notesConverged g from q) q;
-            sendings = toBoth g.view (leastOf q) (install g.view (leastOf q) q) ∷ [];
+            next = raises (notes_converged g from q) q;
+            sendings = to_both g.view (least_of q) (install g.view (least_of q) q) ∷ [];
           })
       go H e = record {
         log = raise v q ∷ l;
@@ -213,35 +213,35 @@ module _ {C : Setting} {l : Log} {k v : ℕ} (S : Sound C l) where
           view-is = H1.view-is;
           facts = H1.facts;
           own-rises = H1.own-rises;
-          conv-rises = H1.conv-rises;
+          conv_rises = H1.conv_rises;
           contained = H1.contained;
           heard = H1.heard;
         };
-        sent = sent-alike (raise v q ∷ l) k (toBoth g.view (leastOf q) (install g.view (leastOf q) q)) (λ n. rw G.view-is (record { raised = Memᴰ.head refl; kept = h; least = refl }));
+        sent = sent_alike (raise v q ∷ l) k (to_both g.view (least_of q) (install g.view (least_of q) q)) (λ n. rw G.view-is (record { raised = Memᴰ.head refl; kept = h; least = refl }));
       }
         where
           votes : Raise C l v q
           votes = record {
-            voters = agreeing (notesConverged g from q).convergences q;
-            quorum = subst (λ (x : ℕ). reachesOf x (agreeing (notesConverged g from q).convergences q) ≡ true) G.view-is e;
-            each = λ j s i b. let z = agreeing-bit (notesConverged g from q).convergences q j b in
+            voters = agreeing (notes_converged g from q).convergences q;
+            quorum = subst (λ (x : ℕ). reaches_of x (agreeing (notes_converged g from q).convergences q) ≡ true) G.view-is e;
+            each = λ j s i b. let z = agreeing_bit (notes_converged g from q).convergences q j b in
                 ⊎_elim (λ y. absurd (kept_full h (sym z ∙ y))) (λ y. rw z at y) (H.heard j);
           }
 
-          H1 : GeneratorTied (raise v q ∷ l) k v (notesConverged g from q)
-          H1 = generator-more (λ p c. omega (arith, ap tag c)) H
+          H1 : GeneratorTied (raise v q ∷ l) k v (notes_converged g from q)
+          H1 = generator_more (λ p c. omega (arith, ap tag c)) H
 
 module _ {C : Setting} {l : Log} {k v : ℕ} (S : Sound C l) where
   pub proposal-done : {q : List ℕ} (from : ℕ) (g : Generator) → GeneratorTied l k v g → l ∋ own from v q → Kept v q
-      → TurnDone C l k v (proposalHeard g from q)
-  unfolding proposalHeard
+      → TurnDone C l k v (proposal_heard g from q)
+  unfolding proposal_heard
   proposal-done {q} from g G m h =
       let one = hears-done S from g G m h in
       let two = settles-done one.sound (hears g from q).next one.tied in
       record {
         log = two.log;
-        since = since-join one.since two.since;
+        since = since_join one.since two.since;
         sound = two.sound;
         tied = two.tied;
-        sent = all_append (sendings-since two.since one.sent) two.sent;
+        sent = all_append (sendings_since two.since one.sent) two.sent;
       }

@@ -24,9 +24,9 @@ pub record Among (S : List ℕ → Type 0) (r : List ℕ) : Type 0 where
   pub sup : r ⊆ it
 
 -- from a chain nothing else is gathered
-pub gathered-chain : {S : List ℕ → Type 0} {r : List ℕ} → Chain S → Gathered S r → Among S r
-gathered-chain c (given {r = r} s) = record { it = r; is = s; sub = λ v m. m; sup = λ v m. m }
-gathered-chain {S} c (both {p = p} {q = q} {r = r} a b u) = go (gathered-chain c a) (gathered-chain c b)
+pub gathered_chain : {S : List ℕ → Type 0} {r : List ℕ} → Chain S → Gathered S r → Among S r
+gathered_chain c (given {r = r} s) = record { it = r; is = s; sub = λ v m. m; sup = λ v m. m }
+gathered_chain {S} c (both {p = p} {q = q} {r = r} a b u) = go (gathered_chain c a) (gathered_chain c b)
   where
     inner : (x : Among S p) (y : Among S q) → Nested x.it y.it → Among S r
     inner x y (inl h) = record {
@@ -46,7 +46,7 @@ gathered-chain {S} c (both {p = p} {q = q} {r = r} a b u) = go (gathered-chain c
     go x y = inner x y (c x.it y.it x.is y.is)
 
 pub gathered-nested : {S : List ℕ → Type 0} {p q : List ℕ} → Chain S → Gathered S p → Gathered S q → Nested p q
-gathered-nested {S} {p} {q} c g h = go (gathered-chain c g) (gathered-chain c h)
+gathered-nested {S} {p} {q} c g h = go (gathered_chain c g) (gathered_chain c h)
   where
     pick : (x : Among S p) (y : Among S q) → Nested x.it y.it → Nested p q
     pick x y (inl k) = inl (λ v m. y.sub v (k v (x.sup v m)))

@@ -12,81 +12,81 @@ use lib.Seq.{drop-drop}
 use borrow.Author.Tests.{leb-true, leb-false}
 use Rattle.rules.specs.Sets.{if◌then◌else◌}
 use Rattle.rules.specs.declared.Step.{Step}
-use Rattle.rules.specs.Sheets.{Form, bad, sheet, stepWidth, stepIn, stepsIn, headerWidth, maskIn, formIn, steps_of, badSheet, listBy, sheetIn}
+use Rattle.rules.specs.Sheets.{Form, bad, sheet, step_width, step_in, steps_in, header_width, mask_in, form_in, steps_of, bad_sheet, list_by, sheet_in}
 use Rattle.sheet.specs.declared.Found.TheVariants.{At, End}
 use Rattle.sheet.specs.declared.reader.Taken.{Taken}
-use Rattle.sheet.specs.Reading.{checkOf, read_of, frontOf, takenAt, stepsFrom}
+use Rattle.sheet.specs.Reading.{check_of, read_of, front_of, taken_at, steps_from}
 use Rattle.sheet.proofs.Reading.{step-none, step-some, after-some}
 use Rattle.sheet.proofs.Checking.{refused}
 pub use Rattle.rules.proofs.Sheets.{sound}
 
-pub check-reads : (b : List ℕ) → read_of (checkOf b) b ≡ sheetIn b
-unfolding checkOf sheetIn read_of
-check-reads b = go (badSheet b)
+pub check_reads : (b : List ℕ) → read_of (check_of b) b ≡ sheet_in b
+unfolding check_of sheet_in read_of
+check_reads b = go (bad_sheet b)
   where
-    go : (t : Bool) → read_of (if t then refused else record { bad = false; mask = maskIn b; steps = steps_of b }) b
-        ≡ (if t then bad else sheet (maskIn b) (listBy (formIn b) b))
+    go : (t : Bool) → read_of (if t then refused else record { bad = false; mask = mask_in b; steps = steps_of b }) b
+        ≡ (if t then bad else sheet (mask_in b) (list_by (form_in b) b))
     go true = refl
     go false = refl
 
 -- ---- an accepted sheet
 
 pub record Accepted (b : List ℕ) (mask : ℕ) (ks : List Step) : Type 0 where
-  pub good : badSheet b ≡ false
-  pub masked : maskIn b ≡ mask
-  pub steps : listBy (formIn b) b ≡ ks
+  pub good : bad_sheet b ≡ false
+  pub masked : mask_in b ≡ mask
+  pub steps : list_by (form_in b) b ≡ ks
 
-pub accepted : (b : List ℕ) (mask : ℕ) (ks : List Step) → sheetIn b ≡ sheet mask ks → Accepted b mask ks
-unfolding sheetIn
-accepted b mask ks e = go (badSheet b) refl e
+pub accepted : (b : List ℕ) (mask : ℕ) (ks : List Step) → sheet_in b ≡ sheet mask ks → Accepted b mask ks
+unfolding sheet_in
+accepted b mask ks e = go (bad_sheet b) refl e
   where
-    go : (t : Bool) → badSheet b ≡ t → (if t then bad else sheet (maskIn b) (listBy (formIn b) b)) ≡ sheet mask ks → Accepted b mask ks
+    go : (t : Bool) → bad_sheet b ≡ t → (if t then bad else sheet (mask_in b) (list_by (form_in b) b)) ≡ sheet mask ks → Accepted b mask ks
     go true f e = let z : ◌≡◌ {A = ℕ} 0 1 = cc in absurd (omega arith)
     go false f e = record { good = f; masked = cc; steps = cc }
 
-steps-count : (f : Form) (n : ℕ) (b : List ℕ) → length (stepsIn f n b) ≡ n
-unfolding stepsIn
-steps-count f zero b = refl
-steps-count f (suc n) b = ap suc (steps-count f n (drop (stepWidth f) b))
+steps_count : (f : Form) (n : ℕ) (b : List ℕ) → length (steps_in f n b) ≡ n
+unfolding steps_in
+steps_count f zero b = refl
+steps_count f (suc n) b = ap suc (steps_count f n (drop (step_width f) b))
 
 module _ (b : List ℕ) (mask : ℕ) (ks : List Step) (a : Accepted b mask ks) where
   pub count : steps_of b ≡ length ks
-  count = sym (steps-count (formIn b) (steps_of b) (drop (headerWidth (formIn b)) b)) ∙ ap length a.steps
+  count = sym (steps_count (form_in b) (steps_of b) (drop (header_width (form_in b)) b)) ∙ ap length a.steps
 
   -- its list is what is read from the front
-  pub front : stepsFrom b (frontOf b) ≡ ks
-  unfolding stepsFrom
+  pub front : steps_from b (front_of b) ≡ ks
+  unfolding steps_from
   front = a.steps
 
 -- ---- any bytes, read from a position on: the step that is read is the first of those left, and past it are the others; at the end none is left
 
 module _ (b : List ℕ) (at : ℕ) where
   abbrev w : ℕ
-  w = stepWidth (formIn b)
+  w = step_width (form_in b)
 
-  from_some : at + w ≤ length b → stepsFrom b at ≡ stepIn (formIn b) (drop at b) ∷ stepsFrom b (at + w)
-  unfolding stepsFrom stepsIn
+  from_some : at + w ≤ length b → steps_from b at ≡ step_in (form_in b) (drop at b) ∷ steps_from b (at + w)
+  unfolding steps_from steps_in
   from_some h =
       let less : length b - at - w ≡ length b - (at + w) = omega arith in
       let more : (length b - at) / w ≡ suc ((length b - (at + w)) / w) = div-eq-sub-div (omega arith) (omega arith) ∙ rw less (omega arith) in
       rw (more, drop-drop w at b)
 
-  from-none : length b < at + w → stepsFrom b at ≡ []
-  unfolding stepsFrom stepsIn
+  from-none : length b < at + w → steps_from b at ≡ []
+  unfolding steps_from steps_in
   from-none h =
       let none : (length b - at) / w ≡ 0 = div-eq_of_lt (omega arith) in
       rw none
 
-  module _ (t : Taken) (e : t ≡ takenAt b at) where
-    pub taken_step : (k : Step) → t.found ≡ At k → stepsFrom b at ≡ k ∷ stepsFrom b t.at
-    unfolding takenAt
+  module _ (t : Taken) (e : t ≡ taken_at b at) where
+    pub taken_step : (k : Step) → t.found ≡ At k → steps_from b at ≡ k ∷ steps_from b t.at
+    unfolding taken_at
     taken_step k f = go (leb (at + w) (length b)) refl
       where
-        go : (x : Bool) → leb (at + w) (length b) ≡ x → stepsFrom b at ≡ k ∷ stepsFrom b t.at
+        go : (x : Bool) → leb (at + w) (length b) ≡ x → steps_from b at ≡ k ∷ steps_from b t.at
         go true g =
             let room : at + w ≤ length b = leb-true (at + w) (length b) g in
-            let found : At (stepIn (formIn b) (drop at b)) ≡ At k = sym (step-some b at room) ∙ ap (λ (a : Taken). a.found) (sym e) ∙ f in
-            let is : stepIn (formIn b) (drop at b) ≡ k = cc in
+            let found : At (step_in (form_in b) (drop at b)) ≡ At k = sym (step-some b at room) ∙ ap (λ (a : Taken). a.found) (sym e) ∙ f in
+            let is : step_in (form_in b) (drop at b) ≡ k = cc in
             let past : t.at ≡ at + w = ap (λ (a : Taken). a.at) e ∙ after-some b at room in
             rw (is, ← past) at (from_some room)
         go false g =
@@ -94,11 +94,11 @@ module _ (b : List ℕ) (at : ℕ) where
             let z : ◌≡◌ {A = ℕ} 0 1 = cc in
             absurd (omega arith)
 
-    pub taken-end : t.found ≡ End → stepsFrom b at ≡ []
-    unfolding takenAt
-    taken-end f = go (leb (at + w) (length b)) refl
+    pub taken_end : t.found ≡ End → steps_from b at ≡ []
+    unfolding taken_at
+    taken_end f = go (leb (at + w) (length b)) refl
       where
-        go : (x : Bool) → leb (at + w) (length b) ≡ x → stepsFrom b at ≡ []
+        go : (x : Bool) → leb (at + w) (length b) ≡ x → steps_from b at ≡ []
         go true g =
             let found = sym (step-some b at (leb-true (at + w) (length b) g)) ∙ ap (λ (a : Taken). a.found) (sym e) ∙ f in
             let z : ◌≡◌ {A = ℕ} 0 1 = cc in

@@ -12,16 +12,16 @@ use lib.Dec.{eqb, ltb}
 use lib.ListN.{length, get_or, drop, length-drop, drop_of_length-le}
 use lib.Seq.{drop-cons}
 use borrow.Author.Tests.{ltb-false, eqb-true, eqb-false, lt-ltb, le-ltb, ne_eqb, not-false}
-use Rattle.views.proofs.Truth.{neither-true}
+use Rattle.views.proofs.Truth.{neither_true}
 use Rattle.rows.specs.Bytes.{splice, placed, bytes_of, fields_of}
-use Rattle.rows.proofs.Laws.{placed-length, placed-nil, placed-more, placed-fits}
+use Rattle.rows.proofs.Laws.{placed-length, placed_nil, placed_more, placed_fits}
 use Rattle.rows.proofs.Numbers.{byte-number, zeros-number}
 use Rattle.rules.specs.Sets.{if◌then◌else◌}
 use Rattle.rules.specs.declared.Step.{Step}
-use Rattle.rules.specs.Sheets.{Form, version1, stepWidth, stepBytes, stepsBytes, headerWidth, headerBytes, sheetBytes, sheetWidth}
+use Rattle.rules.specs.Sheets.{Form, version1, step_width, step_bytes, steps_bytes, header_width, header_bytes, sheet_bytes, sheet_width}
 use Rattle.rules.specs.Sheets.{bad-sheet, no_room, wrote, number, written}
 use Rattle.rules.proofs.Sheets.{step-length, steps-length, size}
-use Rattle.sheet.specs.Writing.{listed, unequal, ruled, ruledSize, bufferOf}
+use Rattle.sheet.specs.Writing.{listed, unequal, ruled, ruled_size, buffer_of}
 
 -- ---- the list
 
@@ -43,137 +43,137 @@ listed_at (suc i) (k ∷ ks) (n ∷ ids) (v ∷ vs) d h = listed_at i ks ids vs 
 
 -- ---- the bytes of a step, as they are written
 
-pub step-bytes : (f : Form) (k : Step) → Fits w8 k.kind → Fits w8 k.id
-    → fields_of (1 ∷ 1 ∷ f.zeroBytes ∷ f.valueBytes ∷ []) (k.kind ∷ k.id ∷ 0 ∷ k.value ∷ []) ≡ stepBytes f k
+pub step_bytes_lem : (f : Form) (k : Step) → Fits w8 k.kind → Fits w8 k.id
+    → fields_of (1 ∷ 1 ∷ f.zero_bytes ∷ f.value_bytes ∷ []) (k.kind ∷ k.id ∷ 0 ∷ k.value ∷ []) ≡ step_bytes f k
 unfolding fields_of
-step-bytes f k kind id = rw (byte-number kind, byte-number id, zeros-number f.zeroBytes, append-nil (bytes_of f.valueBytes k.value))
+step_bytes_lem f k kind id = rw (byte-number kind, byte-number id, zeros-number f.zero_bytes, append-nil (bytes_of f.value_bytes k.value))
 
 -- ---- the loop: with the steps from the i-th on written from o on, l is l₀ with all of them
 
 unfoldable pub rest : Form → ℕ → List Step → List ℕ
-rest f i steps = stepsBytes f (drop i steps)
+rest f i steps = steps_bytes f (drop i steps)
 
 pub record Left (f : Form) (steps : List Step) (l₀ l : List ℕ) (o i : ℕ) : Type 0 where
   pub within : i ≤ length steps
-  pub at : o ≡ sheetWidth f i
+  pub at : o ≡ sheet_width f i
   pub long : length l ≡ length l₀
-  pub is : placed l o (rest f i steps) ≡ placed l₀ (headerWidth f) (stepsBytes f steps)
+  pub is : placed l o (rest f i steps) ≡ placed l₀ (header_width f) (steps_bytes f steps)
 
-pub left-all : {f : Form} {steps : List Step} {l : List ℕ} → Left f steps l l (headerWidth f) 0
+pub left-all : {f : Form} {steps : List Step} {l : List ℕ} → Left f steps l l (header_width f) 0
 unfolding rest
 left-all = record { within = omega arith; at = omega arith; long = refl; is = refl }
 
-rest-length : (f : Form) (i : ℕ) (steps : List Step) → length (rest f i steps) ≡ stepWidth f * (length steps - i)
+rest-length : (f : Form) (i : ℕ) (steps : List Step) → length (rest f i steps) ≡ step_width f * (length steps - i)
 unfolding rest
-rest-length f i steps = steps-length f (drop i steps) ∙ ap (λ (n : ℕ). stepWidth f * n) (length-drop i steps)
+rest-length f i steps = steps-length f (drop i steps) ∙ ap (λ (n : ℕ). step_width f * n) (length-drop i steps)
 
-rest-next : (f : Form) (i : ℕ) (steps : List Step) (d : Step) → i < length steps → rest f i steps ≡ stepBytes f (get_or steps i d) ++ rest f (i + 1) steps
-unfolding rest stepsBytes
+rest-next : (f : Form) (i : ℕ) (steps : List Step) (d : Step) → i < length steps → rest f i steps ≡ step_bytes f (get_or steps i d) ++ rest f (i + 1) steps
+unfolding rest steps_bytes
 rest-next f i steps d h = rw (drop-cons steps i d h, add-one i)
 
 left_step : {f : Form} {steps : List Step} {l₀ l : List ℕ} {o i : ℕ} (t : List ℕ) (k : Step) → Left f steps l₀ l o i → i < length steps
-    → sheetWidth f (length steps) ≤ length l₀ → get_or steps i k ≡ k → t ≡ placed l o (stepBytes f k) → Left f steps l₀ t (o + stepWidth f) (i + 1)
+    → sheet_width f (length steps) ≤ length l₀ → get_or steps i k ≡ k → t ≡ placed l o (step_bytes f k) → Left f steps l₀ t (o + step_width f) (i + 1)
 left_step {f} {steps} {l₀} {l} {o} {i} t k h below room e q =
-    let w : ℕ = stepWidth f in
+    let w : ℕ = step_width f in
     let tail : List ℕ = rest f (i + 1) steps in
     let past : length steps ≡ i + (1 + (length steps - (i + 1))) = omega arith in
-    let wide : sheetWidth f (i + (1 + (length steps - (i + 1)))) ≤ length l₀ = rw past at room in
-    let fit : o + (length (stepBytes f k) + length tail) ≤ length l = omega (arith, h.at, h.long, step-length f k, rest-length f (i + 1) steps, wide) in
-    let both = placed-more l (stepBytes f k) tail o fit in
-    let next : rest f i steps ≡ stepBytes f k ++ tail = rest-next f i steps k below ∙ ap (λ (x : Step). stepBytes f x ++ tail) e in
+    let wide : sheet_width f (i + (1 + (length steps - (i + 1)))) ≤ length l₀ = rw past at room in
+    let fit : o + (length (step_bytes f k) + length tail) ≤ length l = omega (arith, h.at, h.long, step-length f k, rest-length f (i + 1) steps, wide) in
+    let both = placed_more l (step_bytes f k) tail o fit in
+    let next : rest f i steps ≡ step_bytes f k ++ tail = rest-next f i steps k below ∙ ap (λ (x : Step). step_bytes f x ++ tail) e in
     record {
       within = omega arith;
       at = omega (arith, h.at);
-      long = ap length q ∙ placed-length l (stepBytes f k) o ∙ h.long;
+      long = ap length q ∙ placed-length l (step_bytes f k) o ∙ h.long;
       is = rw (q, ← step-length f k) (both ∙ ap (λ (r : List ℕ). placed l o r) (sym next) ∙ h.is);
     }
 
-pub left-more : {f : Form} (ks ids vs : List ℕ) {l₀ l : List ℕ} {o i : ℕ} (t : List ℕ) → Left f (listed ks ids vs) l₀ l o i → i < length (listed ks ids vs)
-    → sheetWidth f (length (listed ks ids vs)) ≤ length l₀
-    → t ≡ placed l o (stepBytes f (record { kind = get_or ks i 0; id = get_or ids i 0; value = get_or vs i 0 }))
-    → Left f (listed ks ids vs) l₀ t (o + stepWidth f) (i + 1)
-left-more ks ids vs {i = i} t h below room e = left_step t _ h below room (listed_at i ks ids vs _ below) e
+pub left_more : {f : Form} (ks ids vs : List ℕ) {l₀ l : List ℕ} {o i : ℕ} (t : List ℕ) → Left f (listed ks ids vs) l₀ l o i → i < length (listed ks ids vs)
+    → sheet_width f (length (listed ks ids vs)) ≤ length l₀
+    → t ≡ placed l o (step_bytes f (record { kind = get_or ks i 0; id = get_or ids i 0; value = get_or vs i 0 }))
+    → Left f (listed ks ids vs) l₀ t (o + step_width f) (i + 1)
+left_more ks ids vs {i = i} t h below room e = left_step t _ h below room (listed_at i ks ids vs _ below) e
 
 pub left-none : {f : Form} {steps : List Step} {l₀ l : List ℕ} {o i : ℕ} → Left f steps l₀ l o i → length steps ≤ i
-    → l ≡ placed l₀ (headerWidth f) (stepsBytes f steps)
-unfolding rest stepsBytes
+    → l ≡ placed l₀ (header_width f) (steps_bytes f steps)
+unfolding rest steps_bytes
 left-none {f} {steps} {l₀} {l} {o} {i} h p =
     let none : drop i steps ≡ [] = drop_of_length-le steps p in
-    sym (placed-nil l o) ∙ ap (λ (r : List Step). placed l o (stepsBytes f r)) (sym none) ∙ h.is
+    sym (placed_nil l o) ∙ ap (λ (r : List Step). placed l o (steps_bytes f r)) (sym none) ∙ h.is
 
 -- ---- the ruling on a list
 
 module _ (f : Form) (b : List ℕ) (mask : ℕ) (ks : List Step) where
-  pub ruling : (mask ≡ 0 → ⊥) → length ks ≤ f.mostSteps → sheetWidth f (length ks) ≤ length b
-      → written f b mask ks ≡ wrote (sheetBytes f mask ks ++ drop (length (sheetBytes f mask ks)) b)
+  pub ruling : (mask ≡ 0 → ⊥) → length ks ≤ f.most_steps → sheet_width f (length ks) ≤ length b
+      → written f b mask ks ≡ wrote (sheet_bytes f mask ks ++ drop (length (sheet_bytes f mask ks)) b)
   unfolding written
   ruling some few h =
-      rw (ne_eqb mask 0 some, le-ltb f.mostSteps (length ks) few, le-ltb (length b) (length (sheetBytes f mask ks)) (omega (arith, size f mask ks)))
+      rw (ne_eqb mask 0 some, le-ltb f.most_steps (length ks) few, le-ltb (length b) (length (sheet_bytes f mask ks)) (omega (arith, size f mask ks)))
 
 -- ---- three slices, of which the code has tested the lengths and the mask
 
-pub same-lengths : (kinds ids values : List ℕ) → unequal kinds ids values ≡ false → (length ids ≡ length kinds) × (length values ≡ length kinds)
-same-lengths kinds ids values e =
-    let p = neither-true (not (eqb (length ids) (length kinds))) (not (eqb (length values) (length kinds))) e in
+pub same_lengths : (kinds ids values : List ℕ) → unequal kinds ids values ≡ false → (length ids ≡ length kinds) × (length values ≡ length kinds)
+same_lengths kinds ids values e =
+    let p = neither_true (not (eqb (length ids) (length kinds))) (not (eqb (length values) (length kinds))) e in
     (eqb-true (length ids) (length kinds) (not-false _ p.0), eqb-true (length values) (length kinds) (not-false _ p.1))
 
-equal-length : (kinds ids values : List ℕ) → unequal kinds ids values ≡ false → length (listed kinds ids values) ≡ length kinds
-equal-length kinds ids values e = let s = same-lengths kinds ids values e in omega (arith, listed-length kinds ids values, s.0, s.1)
+equal_length : (kinds ids values : List ℕ) → unequal kinds ids values ≡ false → length (listed kinds ids values) ≡ length kinds
+equal_length kinds ids values e = let s = same_lengths kinds ids values e in omega (arith, listed-length kinds ids values, s.0, s.1)
 
 module _ (b : List ℕ) (mask : ℕ) (kinds ids values : List ℕ) where
-  pub bad : unequal kinds ids values || eqb mask 0 || ltb version1.mostSteps (length kinds) ≡ true → ruled b mask kinds ids values ≡ bad-sheet
+  pub bad : unequal kinds ids values || eqb mask 0 || ltb version1.most_steps (length kinds) ≡ true → ruled b mask kinds ids values ≡ bad-sheet
   unfolding ruled written
   bad t = go (unequal kinds ids values) refl t
     where
-      go : (u : Bool) → unequal kinds ids values ≡ u → u || eqb mask 0 || ltb version1.mostSteps (length kinds) ≡ true
+      go : (u : Bool) → unequal kinds ids values ≡ u → u || eqb mask 0 || ltb version1.most_steps (length kinds) ≡ true
           → (if u then bad-sheet else written version1 b mask (listed kinds ids values)) ≡ bad-sheet
       go true e t = refl
       go false e t =
-          let t₁ : eqb mask 0 || ltb version1.mostSteps (length (listed kinds ids values)) ≡ true = rw (equal-length kinds ids values e) t in
+          let t₁ : eqb mask 0 || ltb version1.most_steps (length (listed kinds ids values)) ≡ true = rw (equal_length kinds ids values e) t in
           rw t₁
 
-  module _ (t : unequal kinds ids values || eqb mask 0 || ltb version1.mostSteps (length kinds) ≡ false) where
+  module _ (t : unequal kinds ids values || eqb mask 0 || ltb version1.most_steps (length kinds) ≡ false) where
     masked : (unequal kinds ids values ≡ false) × (eqb mask 0 ≡ false)
     masked =
-        neither-true (unequal kinds ids values) (eqb mask 0)
-        (neither-true (unequal kinds ids values || eqb mask 0) (ltb version1.mostSteps (length kinds)) t).0
+        neither_true (unequal kinds ids values) (eqb mask 0)
+        (neither_true (unequal kinds ids values || eqb mask 0) (ltb version1.most_steps (length kinds)) t).0
 
     some : mask ≡ 0 → ⊥
     some = eqb-false mask 0 masked.1
 
-    pub few : length kinds ≤ version1.mostSteps
-    few = ltb-false version1.mostSteps (length kinds) (neither-true (unequal kinds ids values || eqb mask 0) (ltb version1.mostSteps (length kinds)) t).1
+    pub few : length kinds ≤ version1.most_steps
+    few = ltb-false version1.most_steps (length kinds) (neither_true (unequal kinds ids values || eqb mask 0) (ltb version1.most_steps (length kinds)) t).1
 
     pub counted : length (listed kinds ids values) ≡ length kinds
-    counted = equal-length kinds ids values masked.0
+    counted = equal_length kinds ids values masked.0
 
-    by-list : ruled b mask kinds ids values ≡ written version1 b mask (listed kinds ids values)
+    by_list : ruled b mask kinds ids values ≡ written version1 b mask (listed kinds ids values)
     unfolding ruled
-    by-list = rw masked.0
+    by_list = rw masked.0
 
-    pub roomless : length b < sheetWidth version1 (length kinds) → ruled b mask kinds ids values ≡ no_room
+    pub roomless : length b < sheet_width version1 (length kinds) → ruled b mask kinds ids values ≡ no_room
     unfolding written
     roomless h =
         let ks : List Step = listed kinds ids values in
-        let short = lt-ltb (length b) (length (sheetBytes version1 mask ks)) (omega (arith, size version1 mask ks, counted)) in
-        by-list ∙ rw (ne_eqb mask 0 some, counted, le-ltb version1.mostSteps (length kinds) few, short)
+        let short = lt-ltb (length b) (length (sheet_bytes version1 mask ks)) (omega (arith, size version1 mask ks, counted)) in
+        by_list ∙ rw (ne_eqb mask 0 some, counted, le-ltb version1.most_steps (length kinds) few, short)
 
-    module _ (room : sheetWidth version1 (length kinds) ≤ length b) where
+    module _ (room : sheet_width version1 (length kinds) ≤ length b) where
       whole : ruled b mask kinds ids values
-          ≡ wrote (sheetBytes version1 mask (listed kinds ids values) ++ drop (length (sheetBytes version1 mask (listed kinds ids values))) b)
-      whole = by-list ∙ ruling version1 b mask (listed kinds ids values) some (omega (arith, counted, few)) (omega (arith, counted))
+          ≡ wrote (sheet_bytes version1 mask (listed kinds ids values) ++ drop (length (sheet_bytes version1 mask (listed kinds ids values))) b)
+      whole = by_list ∙ ruling version1 b mask (listed kinds ids values) some (omega (arith, counted, few)) (omega (arith, counted))
 
-      pub done : (0 ≡ number (ruled b mask kinds ids values)) × (sheetWidth version1 (length kinds) ≡ ruledSize b mask kinds ids values)
-      unfolding ruledSize
+      pub done : (0 ≡ number (ruled b mask kinds ids values)) × (sheet_width version1 (length kinds) ≡ ruled_size b mask kinds ids values)
+      unfolding ruled_size
       done = (rw whole, rw whole (omega (arith, size version1 mask (listed kinds ids values), counted)))
 
-      pub left : (h l : List ℕ) → h ≡ placed b 0 (headerBytes version1 mask)
-          → l ≡ placed h (headerWidth version1) (stepsBytes version1 (listed kinds ids values))
-          → l ≡ bufferOf b (ruled b mask kinds ids values)
-      unfolding splice sheetBytes bytes_of
+      pub left : (h l : List ℕ) → h ≡ placed b 0 (header_bytes version1 mask)
+          → l ≡ placed h (header_width version1) (steps_bytes version1 (listed kinds ids values))
+          → l ≡ buffer_of b (ruled b mask kinds ids values)
+      unfolding splice sheet_bytes bytes_of
       left h l eh el =
           let ks : List Step = listed kinds ids values in
           el
-          ∙ rw eh (placed-more b (headerBytes version1 mask) (stepsBytes version1 ks) 0 (omega (arith, steps-length version1 ks, counted)))
-          ∙ placed-fits b (sheetBytes version1 mask ks) 0 (omega (arith, steps-length version1 ks, counted))
+          ∙ rw eh (placed_more b (header_bytes version1 mask) (steps_bytes version1 ks) 0 (omega (arith, steps-length version1 ks, counted)))
+          ∙ placed_fits b (sheet_bytes version1 mask ks) 0 (omega (arith, steps-length version1 ks, counted))
           ∙ rw (whole, zero-add)

@@ -2,7 +2,7 @@
 use Rattle.std.specs.Prelude.{Bool, not, List, [], ◌∷◌, map, ℕ, eqb, length}
 use Rattle.rules.specs.Sets.{if◌then◌else◌, ◌||◌}
 use Rattle.rules.specs.declared.Step.{Step}
-use Rattle.rules.specs.Sheets.{version1, Written as Ruling, bad-sheet, no_room, wrote, sheetBytes, written}
+use Rattle.rules.specs.Sheets.{version1, Written as Ruling, bad-sheet, no_room, wrote, sheet_bytes, written}
 use Rattle.sheet.specs.declared.Written.{Written}
 use Rattle.sheet.specs.declared.Written.TheVariants.{Done, BadSheet, NoRoom}
 
@@ -14,8 +14,8 @@ listed (k ∷ ks) (i ∷ is) [] = []
 listed (k ∷ ks) (i ∷ is) (v ∷ vs) = record { kind = k; id = i; value = v } ∷ listed ks is vs
 
 -- and the three of a list
-abbrev pub kindsOf : List Step → List ℕ
-kindsOf ks = map (λ (k : Step). k.kind) ks
+abbrev pub kinds_of : List Step → List ℕ
+kinds_of ks = map (λ (k : Step). k.kind) ks
 
 abbrev pub ids_of : List Step → List ℕ
 ids_of ks = map (λ (k : Step). k.id) ks
@@ -31,19 +31,19 @@ unfoldable pub ruled : List ℕ → ℕ → List ℕ → List ℕ → List ℕ �
 ruled buf mask kinds ids values = if unequal kinds ids values then bad-sheet else written version1 buf mask (listed kinds ids values)
 
 -- how many bytes the sheet has that is written, and 0 where none is
-abbrev pub sizeIn : ℕ → Ruling → ℕ
-sizeIn n bad-sheet = 0
-sizeIn n no_room = 0
-sizeIn n (wrote l) = n
+abbrev pub size_in : ℕ → Ruling → ℕ
+size_in n bad-sheet = 0
+size_in n no_room = 0
+size_in n (wrote l) = n
 
-unfoldable pub ruledSize : List ℕ → ℕ → List ℕ → List ℕ → List ℕ → ℕ
-ruledSize buf mask kinds ids values = sizeIn (length (sheetBytes version1 mask (listed kinds ids values))) (ruled buf mask kinds ids values)
+unfoldable pub ruled_size : List ℕ → ℕ → List ℕ → List ℕ → List ℕ → ℕ
+ruled_size buf mask kinds ids values = size_in (length (sheet_bytes version1 mask (listed kinds ids values))) (ruled buf mask kinds ids values)
 
 -- the buffer that a ruling leaves of b
-abbrev pub bufferOf : List ℕ → Ruling → List ℕ
-bufferOf b bad-sheet = b
-bufferOf b no_room = b
-bufferOf b (wrote l) = l
+abbrev pub buffer_of : List ℕ → Ruling → List ℕ
+buffer_of b bad-sheet = b
+buffer_of b no_room = b
+buffer_of b (wrote l) = l
 
 -- document 01's number for each case of the code's answer: 0 done, 8 NO ROOM, 9 BAD SHEET; and how many bytes the sheet has
 abbrev pub number_of : Written → ℕ

@@ -1,9 +1,9 @@
 // Sheets: bytes are checked, read from the front one step at a time, and written. Document 01, "Sheets and the printed record".
 ghost use Rattle.std.specs.Prelude.{◌≡◌, ◌≤◌, length, drop};
 ghost use Rattle.rows.specs.Bytes.{placed};
-ghost use Rattle.rules.specs.Sheets.{version1, marked, headerWidth, headerBytes, allZerosIn, stepBytes, stepsBytes, sheetWidth, number};
-ghost use Rattle.sheet.specs.Reading.{checkOf, frontOf, stepAt, after_of};
-ghost use Rattle.sheet.specs.Writing.{listed, ruled, ruledSize, bufferOf, number_of, size_of};
+ghost use Rattle.rules.specs.Sheets.{version1, marked, header_width, header_bytes, all_zeros_in, step_bytes, steps_bytes, sheet_width, number};
+ghost use Rattle.sheet.specs.Reading.{check_of, front_of, step_at, after_of};
+ghost use Rattle.sheet.specs.Writing.{listed, ruled, ruled_size, buffer_of, number_of, size_of};
 
 use rows::{byte_at, has_room, is_zero, put_fields, read_u16, read_u32};
 use rules::Step;
@@ -68,8 +68,8 @@ fn is_marked(b: &[u8]) -> bool
 
 // "non-zero in the two bytes", of each step
 fn is_blank(b: &[u8], steps: usize) -> bool
-    requires { sheetWidth version1 steps ≤ length b.now }
-    ensures { result ≡ allZerosIn version1 steps (drop (headerWidth version1) b.now) }
+    requires { sheet_width version1 steps ≤ length b.now }
+    ensures { result ≡ all_zeros_in version1 steps (drop (header_width version1) b.now) }
 {
     let mut at = HEAD;
     let mut left = steps;
@@ -85,7 +85,7 @@ fn is_blank(b: &[u8], steps: usize) -> bool
 
 // "BAD SHEET: under six bytes, wrong mark, version, mask 0, a part step, non-zero in the two bytes, over 8,000 steps."
 pub fn check(b: &[u8]) -> Sheet
-    ensures { result ≡ checkOf b.now }
+    ensures { result ≡ check_of b.now }
 {
     if b.len() < HEAD {
         return REFUSED;
@@ -119,14 +119,14 @@ pub fn check(b: &[u8]) -> Sheet
 
 // The position of the first step. Every header has as many bytes.
 fn front(b: &[u8]) -> usize
-    ensures { result ≡ frontOf b.now }
+    ensures { result ≡ front_of b.now }
 {
     HEAD
 }
 
 // The step at a position. Every sheet has the steps of version 1, so their width is a constant.
 pub fn step_at(b: &[u8], at: usize) -> Found
-    ensures { result ≡ stepAt b.now at }
+    ensures { result ≡ step_at b.now at }
 {
     if !has_room(b.len(), at, STEP) {
         return Found::End;
@@ -148,7 +148,7 @@ pub fn after(b: &[u8], at: usize) -> usize
 }
 
 fn put_head(buf: &mut [u8], mask: u8)
-    ensures { buf.new ≡ placed buf.old 0 (headerBytes version1 mask) }
+    ensures { buf.new ≡ placed buf.old 0 (header_bytes version1 mask) }
 {
     let widths = [1u8, 1, 1, 2, 1];
     let xs = [
@@ -163,7 +163,7 @@ fn put_head(buf: &mut [u8], mask: u8)
 
 // "8 bytes a step: kind, id, two zero bytes, value"
 fn put_step(buf: &mut [u8], at: usize, step: Step)
-    ensures { buf.new ≡ placed buf.old at (stepBytes version1 step) }
+    ensures { buf.new ≡ placed buf.old at (step_bytes version1 step) }
 {
     let widths = [1u8, 1, 2, 4];
     let xs = [step.kind as u32, step.id as u32, 0, step.value];
@@ -172,9 +172,9 @@ fn put_step(buf: &mut [u8], at: usize, step: Step)
 
 fn put_steps(buf: &mut [u8], n: usize, kinds: &[u8], ids: &[u8], values: &[u32])
     requires n_value { n ≡ length (listed kinds.now ids.now values.now) }
-    requires n_in_bounds { sheetWidth version1 n ≤ length buf.old }
+    requires n_in_bounds { sheet_width version1 n ≤ length buf.old }
     ensures { buf.new
-        ≡ placed buf.old (headerWidth version1) (stepsBytes version1 (listed kinds.now ids.now values.now)) }
+        ≡ placed buf.old (header_width version1) (steps_bytes version1 (listed kinds.now ids.now values.now)) }
 {
     let mut at = HEAD;
     let mut i = 0;
@@ -194,9 +194,9 @@ fn put_steps(buf: &mut [u8], n: usize, kinds: &[u8], ids: &[u8], values: &[u32])
 // Three slices of unequal lengths are no list.
 pub fn write(buf: &mut [u8], mask: u8, kinds: &[u8], ids: &[u8], values: &[u32]) -> Written
     ensures answer { (number_of result ≡ number (ruled buf.old mask kinds.now ids.now values.now))
-        × (size_of result ≡ ruledSize buf.old mask kinds.now ids.now values.now) }
+        × (size_of result ≡ ruled_size buf.old mask kinds.now ids.now values.now) }
     ensures left { buf.new
-        ≡ bufferOf buf.old (ruled buf.old mask kinds.now ids.now values.now) }
+        ≡ buffer_of buf.old (ruled buf.old mask kinds.now ids.now values.now) }
 {
     let n = kinds.len();
     let unequal = (ids.len() != n) | (values.len() != n);

@@ -1,7 +1,7 @@
 // "It is read from the front one step at a time": a reader holds the sheet's bytes and a position. `step_at` and `after` do the work on a plain
 // slice and a number. The functions over `Reader` are thin: a struct that holds a reference is proved by hand.
 ghost use Rattle.std.specs.Prelude.{◌≡◌};
-ghost use Rattle.sheet.specs.Reading.{frontOf, stepAt, after_of, takenAt};
+ghost use Rattle.sheet.specs.Reading.{front_of, step_at, after_of, taken_at};
 
 use super::{Found, after, front, step_at};
 
@@ -20,7 +20,7 @@ pub struct Taken {
 
 // At the front: the first step.
 pub fn new<'a>(sheet: &'a [u8]) -> Reader<'a>
-    ensures { (result.sheet ≡ sheet.entry) × (result.at ≡ frontOf sheet.now) }
+    ensures { (result.sheet ≡ sheet.entry) × (result.at ≡ front_of sheet.now) }
 {
     let at = front(sheet);
     Reader { sheet, at }
@@ -28,7 +28,7 @@ pub fn new<'a>(sheet: &'a [u8]) -> Reader<'a>
 
 // The step at the reader's position, or the end.
 pub fn next<'a>(r: Reader<'a>) -> Found
-    ensures { result ≡ stepAt r.entry.sheet.now r.entry.at }
+    ensures { result ≡ step_at r.entry.sheet.now r.entry.at }
 {
     step_at(r.sheet, r.at)
 }
@@ -43,7 +43,7 @@ pub fn moved<'a>(r: Reader<'a>) -> Reader<'a>
 
 // One step for a loop that keeps the position. Its parameters are plain, so that a caller is proved as any other function.
 pub fn read_at(sheet: &[u8], at: usize) -> Taken
-    ensures { result ≡ takenAt sheet.now at }
+    ensures { result ≡ taken_at sheet.now at }
 {
     let r = Reader { sheet, at };
     let found = next(r);

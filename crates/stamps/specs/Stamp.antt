@@ -8,8 +8,8 @@ unfoldable pub sign_of : ℕ → ℕ → ℤ → ℤ
 sign_of a b otherwise = cond (ltb a b) (negsuc 0) (cond (ltb b a) (pos 1) otherwise)
 
 -- "A stamp is (count 0..65,535, desk 0..3), ordered by count, then desk. Comparing two stamps answers minus one, zero or one."
-unfoldable pub comparedOf : Stamp → Stamp → ℤ
-comparedOf a b = sign_of a.count b.count (sign_of a.desk b.desk (pos 0))
+unfoldable pub compared_of : Stamp → Stamp → ℤ
+compared_of a b = sign_of a.count b.count (sign_of a.desk b.desk (pos 0))
 
 -- an answer is the number n
 abbrev pub equals : ℤ → ℕ → Bool
@@ -18,23 +18,23 @@ equals (negsuc m) n = false
 
 -- the stamp a is greater than b, as in "Put stores if its stamp is greater"
 unfoldable pub greater_of : Stamp → Stamp → Bool
-greater_of a b = equals (comparedOf a b) 1
+greater_of a b = equals (compared_of a b) 1
 
 -- they are the same stamp, as in "if all stamps agreed"
-unfoldable pub sameOf : Stamp → Stamp → Bool
-sameOf a b = equals (comparedOf a b) 0
+unfoldable pub same_of : Stamp → Stamp → Bool
+same_of a b = equals (compared_of a b) 0
 
 -- "Wherever the greatest stamp is kept, of equal stamps the pair already held stays."
-unfoldable pub greatestOf : Pair → Pair → Pair
-greatestOf held new = cond (greater_of new.stamp held.stamp) new held
+unfoldable pub greatest_of : Pair → Pair → Pair
+greatest_of held new = cond (greater_of new.stamp held.stamp) new held
 
 -- "A value is an unsigned 32-bit number."
 abbrev pub Value : Type 0
 Value = ℕ
 
 -- "Fresh record: stamp (0,0), value 0."
-abbrev pub noValue : Value
-noValue = 0
+abbrev pub no_value : Value
+no_value = 0
 
-abbrev pub freshPair : Pair
-freshPair = record { stamp = record { count = 0; desk = 0 }; value = noValue }
+abbrev pub fresh_pair : Pair
+fresh_pair = record { stamp = record { count = 0; desk = 0 }; value = no_value }

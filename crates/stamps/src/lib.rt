@@ -1,6 +1,6 @@
 // Stamps, their order, and the greatest of the pairs of a stamp and a value. Document 01, "Sets and sequences" and "Delivery at a relay".
 ghost use Rattle.std.specs.Prelude.{◌≡◌};
-ghost use Rattle.stamps.specs.Stamp.{sign_of, comparedOf, greater_of, sameOf, greatestOf, freshPair};
+ghost use Rattle.stamps.specs.Stamp.{sign_of, compared_of, greater_of, same_of, greatest_of, fresh_pair};
 
 #[derive(Drop)]
 pub struct Stamp {
@@ -27,7 +27,7 @@ fn sign(a: u16, b: u16, otherwise: i8) -> i8
 }
 
 pub fn compare(a: Stamp, b: Stamp) -> i8
-    ensures { result ≡ comparedOf a b }
+    ensures { result ≡ compared_of a b }
 {
     let by_desk = sign(a.desk as u16, b.desk as u16, 0);
     sign(a.count, b.count, by_desk)
@@ -40,20 +40,20 @@ pub fn greater(a: Stamp, b: Stamp) -> bool
 }
 
 pub fn same(a: Stamp, b: Stamp) -> bool
-    ensures { result ≡ sameOf a b }
+    ensures { result ≡ same_of a b }
 {
     compare(a, b) == 0
 }
 
 pub fn greatest(held: Pair, new: Pair) -> Pair
-    ensures { result ≡ greatestOf held new }
+    ensures { result ≡ greatest_of held new }
 {
     let order = compare(new.stamp, held.stamp);
     if order == 1 { new } else { held }
 }
 
 pub fn fresh() -> Pair
-    ensures { result ≡ freshPair }
+    ensures { result ≡ fresh_pair }
 {
     Pair {
         stamp: Stamp { count: 0, desk: 0 },

@@ -1,12 +1,12 @@
 -- What the code's values mean, in the words of the rules. A row of views means the list of its views, so unused entries of a row mean nothing.
 -- Assumes nothing.
 use Rattle.std.specs.Prelude.{Bool, List, [], ◌∷◌, map, ℕ}
-use Rattle.views.specs.Row.{viewsOf}
+use Rattle.views.specs.Row.{views_of}
 use Rattle.rules.specs.Sets.{if◌then◌else◌}
 use Rattle.rules.specs.Messages as rules
 use Rattle.rules.specs.State.{Relay}
 use Rattle.rules.specs.State as rules-state
-use Rattle.layout.specs.Image.{Row, row, bodyIn}
+use Rattle.layout.specs.Image.{Row, row, body_in}
 use Rattle.state.specs.declared.Notes.{Notes}
 use Rattle.state.specs.declared.Generator.{Generator}
 use Rattle.state.specs.declared.Transfer.{Transfer}
@@ -19,34 +19,34 @@ use Rattle.state.specs.declared.Sendings.{Sendings}
 use Rattle.state.specs.declared.Event.{Event}
 use Rattle.state.specs.declared.Event.TheVariants.{Nothing, Opened, ReadDone, WriteDone}
 
-unfoldable pub notesOf : Notes → List (List ℕ)
-notesOf n = map viewsOf n.of
+unfoldable pub notes_of : Notes → List (List ℕ)
+notes_of n = map views_of n.of
 
-unfoldable pub generatorOf : Generator → rules-state.Generator
-generatorOf g =
+unfoldable pub generator_of : Generator → rules-state.Generator
+generator_of g =
     record {
       view = g.view;
-      own = viewsOf g.own;
-      converged = viewsOf g.converged;
-      raised = viewsOf g.raised;
-      proposals = notesOf g.proposals;
-      convergences = notesOf g.convergences;
+      own = views_of g.own;
+      converged = views_of g.converged;
+      raised = views_of g.raised;
+      proposals = notes_of g.proposals;
+      convergences = notes_of g.convergences;
     }
 
-unfoldable pub transferOf : Transfer → rules-state.Transfer
-transferOf t =
+unfoldable pub transfer_of : Transfer → rules-state.Transfer
+transfer_of t =
     record {
       old = t.old;
       new = t.new;
-      sequence = viewsOf t.sequence;
+      sequence = views_of t.sequence;
       senders = t.senders;
       best = t.best;
       gathered = t.gathered;
     }
 
 -- a relay with this head, these generators and these transfers
-unfoldable pub relayOf : Head → List rules-state.Generator → List rules-state.Transfer → Relay
-relayOf h gs ts =
+unfoldable pub relay_of : Head → List rules-state.Generator → List rules-state.Transfer → Relay
+relay_of h gs ts =
     record {
       alive = h.alive;
       view = h.view;
@@ -59,35 +59,35 @@ relayOf h gs ts =
       transfers = ts;
     }
 
-abbrev pub asList : {A : Type 0} → Bool → A → List A
-asList b x = if b then x ∷ [] else []
+abbrev pub as_list : {A : Type 0} → Bool → A → List A
+as_list b x = if b then x ∷ [] else []
 
 -- the relay that a part shows: one with that generator and that transfer, if any, and no others
 unfoldable pub part_of : Part → Relay
-part_of p = relayOf p.head (asList p.generates (generatorOf p.generator)) (asList p.transfers (transferOf p.transfer))
+part_of p = relay_of p.head (as_list p.generates (generator_of p.generator)) (as_list p.transfers (transfer_of p.transfer))
 
 -- a body from one to another, field by field, as the image has a message's row
-abbrev pub addressedRow : ℕ → ℕ → Body → Row
-addressedRow s r b = row b.kind s r b.first b.second b.tries (viewsOf b.sequence) b.pair b.updates
+abbrev pub addressed_row : ℕ → ℕ → Body → Row
+addressed_row s r b = row b.kind s r b.first b.second b.tries (views_of b.sequence) b.pair b.updates
 
-abbrev pub rowOfBody : Body → Row
-rowOfBody b = addressedRow 0 0 b
+abbrev pub row_of_body : Body → Row
+row_of_body b = addressed_row 0 0 b
 
 -- what a body says by its kind (Image); 11 and any number that is no kind: an acknowledgement
 unfoldable pub body_of : Body → rules.Body
-body_of b = bodyIn (rowOfBody b)
+body_of b = body_in (row_of_body b)
 
-unfoldable pub messageOf : Message → rules.Message
-messageOf m = record { from = m.from; to = m.to; body = body_of m.body }
+unfoldable pub message_of : Message → rules.Message
+message_of m = record { from = m.from; to = m.to; body = body_of m.body }
 
-unfoldable pub sendingOf : Sending → rules.Sending
-sendingOf s = record { body = body_of s.body; receivers = s.receivers }
+unfoldable pub sending_of : Sending → rules.Sending
+sending_of s = record { body = body_of s.body; receivers = s.receivers }
 
-unfoldable pub sendingsOf : Sendings → List rules.Sending
-sendingsOf x = map sendingOf x.of
+unfoldable pub sendings_of : Sendings → List rules.Sending
+sendings_of x = map sending_of x.of
 
-unfoldable pub eventOf : Event → rules.Event
-eventOf Nothing = rules.nothing
-eventOf (Opened v) = rules.opened v
-eventOf (ReadDone p) = rules.readDone p
-eventOf (WriteDone p) = rules.writeDone p
+unfoldable pub event_of : Event → rules.Event
+event_of Nothing = rules.nothing
+event_of (Opened v) = rules.opened v
+event_of (ReadDone p) = rules.read_done p
+event_of (WriteDone p) = rules.write_done p

@@ -7,11 +7,11 @@ use Rattle.rules.specs.Generators.{Turn}
 use Rattle.state.specs.declared.Turn as code-turn
 use Rattle.state.specs.declared.Plan.{Plan}
 use Rattle.state.specs.declared.DeskPlan.{DeskPlan}
-use Rattle.state.specs.Meaning.{generatorOf, part_of, sendingsOf, eventOf}
+use Rattle.state.specs.Meaning.{generator_of, part_of, sendings_of, event_of}
 
 -- nothing is sent
-abbrev pub noSending : Sending
-noSending = record { body = ack 0; receivers = 0 }
+abbrev pub no_sending : Sending
+no_sending = record { body = ack 0; receivers = 0 }
 
 -- the most that one rule sends
 abbrev pub most : ℕ
@@ -25,7 +25,7 @@ padded (suc n) blank (x ∷ xs) = x ∷ padded n blank xs
 
 -- what a rule sends, in the room that a plan has for it
 abbrev pub bounded : List Sending → List Sending
-bounded ss = padded most noSending ss
+bounded ss = padded most no_sending ss
 
 -- ---- at a generator
 
@@ -34,7 +34,7 @@ pub record Turned : Type 0 where
   pub sendings : List Sending
 
 unfoldable pub turn_of : code-turn.Turn → Turned
-turn_of t = record { next = generatorOf t.next; sendings = sendingsOf t.sends }
+turn_of t = record { next = generator_of t.next; sendings = sendings_of t.sends }
 
 unfoldable pub turned : Turn → Turned
 turned t = record { next = t.next; sendings = bounded t.sendings }
@@ -53,7 +53,7 @@ planned blank (refused x) = record { answer = number x; next = blank; sendings =
 planned blank (does a ss e) = record { answer = 0; next = a; sendings = bounded ss; event = e }
 
 unfoldable pub plan_of : Plan → Planned Relay
-plan_of p = record { answer = p.answer; next = part_of p.part; sendings = sendingsOf p.sends; event = eventOf p.event }
+plan_of p = record { answer = p.answer; next = part_of p.part; sendings = sendings_of p.sends; event = event_of p.event }
 
-unfoldable pub deskPlanOf : DeskPlan → Planned Desk
-deskPlanOf p = record { answer = p.answer; next = p.desk; sendings = sendingsOf p.sends; event = eventOf p.event }
+unfoldable pub desk_plan_of : DeskPlan → Planned Desk
+desk_plan_of p = record { answer = p.answer; next = p.desk; sendings = sendings_of p.sends; event = event_of p.event }

@@ -7,28 +7,28 @@ use mathlib.Core.List.{List}
 use Prim.Native.Nat.{ℕ, ◌≤◌, ◌<◌}
 use lib.ListN.{length, take}
 use lib.Seq.{take_all}
-use Rattle.views.specs.Chain.{lacksOf, conflictOf, unionOf, heardOf, above_of}
-use Rattle.views.specs.Row.{viewsOf, row_of}
+use Rattle.views.specs.Chain.{lacks_of, conflict_of, union_of, heard_of, above_of}
+use Rattle.views.specs.Row.{views_of, row_of}
 use Rattle.views.proofs.Rows.{held}
-use Rattle.views.proofs.Nested.{Above, above-fact, above-fits}
-use Rattle.views.proofs.Merge.{above-union, above-heard}
+use Rattle.views.proofs.Nested.{Above, above_fact, above_fits}
+use Rattle.views.proofs.Merge.{above_union, above_heard}
 
-pub views-row : (l : List ℕ) → viewsOf (row_of l) ≡ take 15 l
-views-row l = held (row_of l) l refl
+pub views_row : (l : List ℕ) → views_of (row_of l) ≡ take 15 l
+views_row l = held (row_of l) l refl
 
-pub views-whole : (l : List ℕ) → length l ≤ 15 → viewsOf (row_of l) ≡ l
-views-whole l h = views-row l ∙ take_all 15 l h
+pub views_whole : (l : List ℕ) → length l ≤ 15 → views_of (row_of l) ≡ l
+views_whole l h = views_row l ∙ take_all 15 l h
 
 module _ (v : ℕ) (small : v < 65536) (update : v ≢ 0) where
-  whole : {l : List ℕ} → Above v l → viewsOf (row_of l) ≡ l
-  whole {l} a = views-whole l (above-fits small update a)
+  whole : {l : List ℕ} → Above v l → views_of (row_of l) ≡ l
+  whole {l} a = views_whole l (above_fits small update a)
 
-  pub above-whole : (l : List ℕ) → above_of v l ≡ true → viewsOf (row_of l) ≡ l
-  above-whole l a = whole (above-fact v l a)
+  pub above_whole : (l : List ℕ) → above_of v l ≡ true → views_of (row_of l) ≡ l
+  above_whole l a = whole (above_fact v l a)
 
-  pub union-whole : (a b : List ℕ) → above_of v a ≡ true → above_of v b ≡ true → conflictOf a b ≡ false → viewsOf (row_of (unionOf a b)) ≡ unionOf a b
-  union-whole a b ha hb n = whole (above-union (above-fact v a ha) (above-fact v b hb) n)
+  pub union_whole : (a b : List ℕ) → above_of v a ≡ true → above_of v b ≡ true → conflict_of a b ≡ false → views_of (row_of (union_of a b)) ≡ union_of a b
+  union_whole a b ha hb n = whole (above_union (above_fact v a ha) (above_fact v b hb) n)
 
-  pub heard-whole : (own converged q : List ℕ) → above_of v own ≡ true → above_of v converged ≡ true → above_of v q ≡ true → lacksOf converged own ≡ false
-      → viewsOf (row_of (heardOf own converged q)) ≡ heardOf own converged q
-  heard-whole own converged q ho hc hq n = whole (above-heard (above-fact v own ho) (above-fact v converged hc) (above-fact v q hq) n)
+  pub heard_whole : (own converged q : List ℕ) → above_of v own ≡ true → above_of v converged ≡ true → above_of v q ≡ true → lacks_of converged own ≡ false
+      → views_of (row_of (heard_of own converged q)) ≡ heard_of own converged q
+  heard_whole own converged q ho hc hq n = whole (above_heard (above_fact v own ho) (above_fact v converged hc) (above_fact v q hq) n)

@@ -9,22 +9,22 @@ use lib.ListN.{length, set, get_or, take, replicate, length-append, length-take,
 use lib.Seq.{take_all, take-take, take-append_seam, take-append-le, get_or-take, set-append_seam}
 use Rattle.views.specs.declared.Sequence.{Sequence}
 use Rattle.views.specs.Choice.{if◌then◌else◌}
-use Rattle.views.specs.Chain.{plusOf}
-use Rattle.views.specs.Row.{viewsOf, row_of}
+use Rattle.views.specs.Chain.{plus_of}
+use Rattle.views.specs.Row.{views_of, row_of}
 
 -- ---- what a row holds
 
 module _ (q : Sequence) (full : length q.views ≡ 15) where
-  pub views-length : length (viewsOf q) ≡ min q.len 15
-  unfolding viewsOf
-  views-length = rw (length-take, full)
+  pub views_length : length (views_of q) ≡ min q.len 15
+  unfolding views_of
+  views_length = rw (length-take, full)
 
-  pub views-at : (i : ℕ) → i < length (viewsOf q) → get_or (viewsOf q) i 0 ≡ get_or q.views i 0
-  unfolding viewsOf
-  views-at i h = get_or-take q.len q.views i 0 (omega (arith, views-length))
+  pub views_at : (i : ℕ) → i < length (views_of q) → get_or (views_of q) i 0 ≡ get_or q.views i 0
+  unfolding views_of
+  views_at i h = get_or-take q.len q.views i 0 (omega (arith, views_length))
 
-pub views-past : (q : Sequence) (i : ℕ) → length (viewsOf q) ≤ i → get_or (viewsOf q) i 0 ≡ 0
-views-past q i h = get_or-eq_default (viewsOf q) 0 h
+pub views_past : (q : Sequence) (i : ℕ) → length (views_of q) ≤ i → get_or (views_of q) i 0 ≡ 0
+views_past q i h = get_or-eq_default (views_of q) 0 h
 
 -- ---- the row of a list: only the first fifteen count
 
@@ -41,44 +41,44 @@ row-take l =
 pub row_same : (a b : List ℕ) → take 15 a ≡ take 15 b → row_of a ≡ row_of b
 row_same a b e = sym (row-take a) ∙ ap row_of e ∙ row-take b
 
-pub held : (q : Sequence) (l : List ℕ) → q ≡ row_of l → viewsOf q ≡ take 15 l
-unfolding viewsOf row_of
+pub held : (q : Sequence) (l : List ℕ) → q ≡ row_of l → views_of q ≡ take 15 l
+unfolding views_of row_of
 held q l e = rw e (take-append_seam (take 15 l) (replicate (15 - length l) 0))
 
 -- a row made of the views of another holds the same
-pub held_same : (r q : Sequence) → length q.views ≡ 15 → r ≡ row_of (viewsOf q) → viewsOf r ≡ viewsOf q
-held_same r q full e = held r _ e ∙ take_all 15 (viewsOf q) (omega (arith, views-length q full))
+pub held_same : (r q : Sequence) → length q.views ≡ 15 → r ≡ row_of (views_of q) → views_of r ≡ views_of q
+held_same r q full e = held r _ e ∙ take_all 15 (views_of q) (omega (arith, views_length q full))
 
 -- what is the row of some list is the row of its own views
-pub clean-row : (q : Sequence) (l : List ℕ) → q ≡ row_of l → q ≡ row_of (viewsOf q)
-clean-row q l e = e ∙ sym (row-take l) ∙ ap row_of (sym (held q l e))
+pub clean_row : (q : Sequence) (l : List ℕ) → q ≡ row_of l → q ≡ row_of (views_of q)
+clean_row q l e = e ∙ sym (row-take l) ∙ ap row_of (sym (held q l e))
 
-take-front : (n : ℕ) (x y : List ℕ) → take n (take n x ++ y) ≡ take n (x ++ y)
-take-front zero x y = refl
-take-front (suc n) [] y = refl
-take-front (suc n) (w ∷ x) y = ap (λ (l : List ℕ). w ∷ l) (take-front n x y)
+take_front : (n : ℕ) (x y : List ℕ) → take n (take n x ++ y) ≡ take n (x ++ y)
+take_front zero x y = refl
+take_front (suc n) [] y = refl
+take_front (suc n) (w ∷ x) y = ap (λ (l : List ℕ). w ∷ l) (take_front n x y)
 
 pub row-append : (x y : List ℕ) → row_of (take 15 x ++ y) ≡ row_of (x ++ y)
-row-append x y = row_same _ _ (take-front 15 x y)
+row-append x y = row_same _ _ (take_front 15 x y)
 
-take-cons : (n w : ℕ) (l : List ℕ) → take n (w ∷ take n l) ≡ take n (w ∷ l)
-take-cons zero w l = refl
-take-cons (suc n) w l = ap (λ (m : List ℕ). w ∷ m) (take-take n (suc n) l (omega arith))
+take_cons : (n w : ℕ) (l : List ℕ) → take n (w ∷ take n l) ≡ take n (w ∷ l)
+take_cons zero w l = refl
+take_cons (suc n) w l = ap (λ (m : List ℕ). w ∷ m) (take-take n (suc n) l (omega arith))
 
-take-plus : (v n : ℕ) (l : List ℕ) → take n (plusOf v (take n l)) ≡ take n (plusOf v l)
-unfolding plusOf
+take-plus : (v n : ℕ) (l : List ℕ) → take n (plus_of v (take n l)) ≡ take n (plus_of v l)
+unfolding plus_of
 take-plus v zero l = refl
 take-plus v (suc n) [] = refl
 take-plus v (suc n) (w ∷ l) = go (ltb v w) (eqb v w) (take-plus v n l)
   where
-    go : (s t : Bool) → take n (plusOf v (take n l)) ≡ take n (plusOf v l)
-        → take (suc n) (if s then v ∷ w ∷ take n l else if t then w ∷ take n l else w ∷ plusOf v (take n l))
-        ≡ take (suc n) (if s then v ∷ w ∷ l else if t then w ∷ l else w ∷ plusOf v l)
-    go true t ih = ap (λ (m : List ℕ). v ∷ m) (take-cons n w l)
+    go : (s t : Bool) → take n (plus_of v (take n l)) ≡ take n (plus_of v l)
+        → take (suc n) (if s then v ∷ w ∷ take n l else if t then w ∷ take n l else w ∷ plus_of v (take n l))
+        ≡ take (suc n) (if s then v ∷ w ∷ l else if t then w ∷ l else w ∷ plus_of v l)
+    go true t ih = ap (λ (m : List ℕ). v ∷ m) (take_cons n w l)
     go false true ih = ap (λ (m : List ℕ). w ∷ m) (take-take n n l (omega arith))
     go false false ih = ap (λ (m : List ℕ). w ∷ m) ih
 
-pub row-plus : (v : ℕ) (l : List ℕ) → row_of (plusOf v (take 15 l)) ≡ row_of (plusOf v l)
+pub row-plus : (v : ℕ) (l : List ℕ) → row_of (plus_of v (take 15 l)) ≡ row_of (plus_of v l)
 row-plus v l = row_same _ _ (take-plus v 15 l)
 
 -- ---- one view more, at the end
@@ -93,12 +93,12 @@ row_room l v h =
     let k : take 15 (l ++ (v ∷ [])) ≡ l ++ (v ∷ []) = take_all 15 _ (simp length-append (omega arith)) in
     ap₂ mk (rw (g, e, set-append_seam l 0 (replicate m 0) v, k, f, append_assoc)) (rw (k, length-append))
 
-module _ (q : Sequence) (v : ℕ) (clean : q ≡ row_of (viewsOf q)) where
-  pub pushed-full : 15 ≤ length (viewsOf q) → q ≡ row_of (viewsOf q ++ (v ∷ []))
-  pushed-full h = clean ∙ row_same _ _ (sym (take-append-le 15 (viewsOf q) (v ∷ []) h))
+module _ (q : Sequence) (v : ℕ) (clean : q ≡ row_of (views_of q)) where
+  pub pushed_full : 15 ≤ length (views_of q) → q ≡ row_of (views_of q ++ (v ∷ []))
+  pushed_full h = clean ∙ row_same _ _ (sym (take-append-le 15 (views_of q) (v ∷ []) h))
 
-  pub pushed : (n : ℕ) → n ≡ length (viewsOf q) → n < 15 → mk (set q.views n v) (n + 1) ≡ row_of (viewsOf q ++ (v ∷ []))
+  pub pushed : (n : ℕ) → n ≡ length (views_of q) → n < 15 → mk (set q.views n v) (n + 1) ≡ row_of (views_of q ++ (v ∷ []))
   pushed n e h =
       ap (λ (k : ℕ). mk (set q.views k v) (k + 1)) e
-      ∙ ap (λ (r : Sequence). mk (set r.views (length (viewsOf q)) v) (length (viewsOf q) + 1)) clean
-      ∙ row_room (viewsOf q) v (omega arith)
+      ∙ ap (λ (r : Sequence). mk (set r.views (length (views_of q)) v) (length (views_of q) + 1)) clean
+      ∙ row_room (views_of q) v (omega arith)

@@ -16,9 +16,9 @@ pub never_true : (b : Bool) → (b ≡ true → ⊥) → b ≡ false
 never_true true h = absurd (h refl)
 never_true false h = refl
 
-pub never-false : (b : Bool) → (b ≡ false → ⊥) → b ≡ true
-never-false true h = refl
-never-false false h = absurd (h refl)
+pub never_false : (b : Bool) → (b ≡ false → ⊥) → b ≡ true
+never_false true h = refl
+never_false false h = absurd (h refl)
 
 -- two tests that pass together are equal
 pub same_truth : (a b : Bool) → (a ≡ true → b ≡ true) → (b ≡ true → a ≡ true) → a ≡ b
@@ -30,16 +30,16 @@ pub either_true : (a b : Bool) → a || b ≡ true → (a ≡ true) ⊎ (b ≡ t
 either_true true b e = inl refl
 either_true false b e = inr e
 
-pub true-left : {a : Bool} (b : Bool) → a ≡ true → a || b ≡ true
-true-left b e = rw e
+pub true_left : {a : Bool} (b : Bool) → a ≡ true → a || b ≡ true
+true_left b e = rw e
 
-pub true-right : (a : Bool) {b : Bool} → b ≡ true → a || b ≡ true
-true-right true e = refl
-true-right false e = e
+pub true_right : (a : Bool) {b : Bool} → b ≡ true → a || b ≡ true
+true_right true e = refl
+true_right false e = e
 
-pub neither-true : (a b : Bool) → a || b ≡ false → (a ≡ false) × (b ≡ false)
-neither-true true b e = absurd (false≢true (sym e))
-neither-true false b e = (refl, e)
+pub neither_true : (a b : Bool) → a || b ≡ false → (a ≡ false) × (b ≡ false)
+neither_true true b e = absurd (false≢true (sym e))
+neither_true false b e = (refl, e)
 
 -- what holds of both branches, each where its branch is taken, holds of the choice
 module _ {A : Type 0} (P : A → Type 0) where

@@ -4,8 +4,8 @@ use Rattle.std.specs.Prelude.{List, ◌++◌, ℕ, ◌-◌, length, take, replic
 use Rattle.views.specs.declared.Sequence.{Sequence}
 
 -- the views that a row holds: of a length above 15, all fifteen count
-unfoldable pub viewsOf : Sequence → List ℕ
-viewsOf q = take q.len q.views
+unfoldable pub views_of : Sequence → List ℕ
+views_of q = take q.len q.views
 
 -- the row that holds these views, at most the first 15, its unused entries zero
 unfoldable pub row_of : List ℕ → Sequence

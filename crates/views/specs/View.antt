@@ -13,25 +13,25 @@ abbrev pub members_of : ℕ → ℕ
 members_of v = bit_and (v % 256) (255 - v / 256)
 
 -- relay s is a member of v
-unfoldable pub memberOf : ℕ → ℕ → Bool
-memberOf v s = bit_of (members_of v) s
+unfoldable pub member_of : ℕ → ℕ → Bool
+member_of v s = bit_of (members_of v) s
 
 -- "Its quorum is half its member count, rounded down, plus 1"
-abbrev pub quorumOf : ℕ → ℕ
-quorumOf v = ones (members_of v) / 2 + 1
+abbrev pub quorum_of : ℕ → ℕ
+quorum_of v = ones (members_of v) / 2 + 1
 
 -- "Only members count towards it; without members it is 1 and never reached."
-unfoldable pub reachesOf : ℕ → ℕ → Bool
-reachesOf v who = leb (quorumOf v) (ones (bit_and who (members_of v)))
+unfoldable pub reaches_of : ℕ → ℕ → Bool
+reaches_of v who = leb (quorum_of v) (ones (bit_and who (members_of v)))
 
 -- every update of a is in b
-abbrev pub withinOf : ℕ → ℕ → Bool
-withinOf a b = eqb (bit_and a b) a
+abbrev pub within_of : ℕ → ℕ → Bool
+within_of a b = eqb (bit_and a b) a
 
 -- "Inside" means every update of one is in the other and they differ.
-unfoldable pub insideOf : ℕ → ℕ → Bool
-insideOf a b = withinOf a b && not (eqb a b)
+unfoldable pub inside_of : ℕ → ℕ → Bool
+inside_of a b = within_of a b && not (eqb a b)
 
 -- they differ, and neither includes the other
-unfoldable pub clashOf : ℕ → ℕ → Bool
-clashOf a b = not (eqb a b) && (not (insideOf a b) && not (insideOf b a))
+unfoldable pub clash_of : ℕ → ℕ → Bool
+clash_of a b = not (eqb a b) && (not (inside_of a b) && not (inside_of b a))

@@ -1,16 +1,16 @@
 // Document 01, "Sets and sequences": views, and the sequences of views that a generator keeps.
 ghost use Rattle.std.specs.Prelude.{◌≡◌, ◌≤◌, [], ◌∷◌, ◌++◌, length, get_or, drop};
 ghost use Rattle.std.specs.Int.Bits.{bit_or};
-ghost use Rattle.views.specs.View.{members_of, memberOf, quorumOf, reachesOf, withinOf, insideOf, clashOf};
-ghost use Rattle.views.specs.Chain.{some, has_of, lacksOf, conflictOf, sameOf, leastOf, most_of, plusOf, unionOf, heardOf, beyondOf, above_of};
-ghost use Rattle.views.specs.Row.{viewsOf, row_of};
+ghost use Rattle.views.specs.View.{members_of, member_of, quorum_of, reaches_of, within_of, inside_of, clash_of};
+ghost use Rattle.views.specs.Chain.{some, has_of, lacks_of, conflict_of, same_of, least_of, most_of, plus_of, union_of, heard_of, beyond_of, above_of};
+ghost use Rattle.views.specs.Row.{views_of, row_of};
 
 // ---- how a row of views grows, for the functions below; its unused entries are zero and stay so
 
 // One view more, at the end; a full row stays as it is.
 fn push(q: Sequence, v: u16) -> Sequence
-    requires { q ≡ row_of (viewsOf q) }
-    ensures { result ≡ row_of (viewsOf q ++ (v ∷ [])) }
+    requires { q ≡ row_of (views_of q) }
+    ensures { result ≡ row_of (views_of q ++ (v ∷ [])) }
 {
     let n = count(q);
     if n == 15 {
@@ -24,8 +24,8 @@ fn push(q: Sequence, v: u16) -> Sequence
 
 // The views of r, and then those of q from place at on.
 fn rest(r: Sequence, q: Sequence, at: usize) -> Sequence
-    requires { r ≡ row_of (viewsOf r) }
-    ensures { result ≡ row_of (viewsOf r ++ drop at (viewsOf q)) }
+    requires { r ≡ row_of (views_of r) }
+    ensures { result ≡ row_of (views_of r ++ drop at (views_of q)) }
 {
     let mut a = r;
     let n = count(q);
@@ -50,7 +50,7 @@ pub fn members(v: u16) -> u8
 
 // Relay s is one of them; there is no relay above 7.
 pub fn is_member(v: u16, s: u8) -> bool
-    ensures { result ≡ memberOf v s }
+    ensures { result ≡ member_of v s }
 {
     if 8 <= s {
         return false;
@@ -60,35 +60,35 @@ pub fn is_member(v: u16, s: u8) -> bool
 
 // Half the member count, rounded down, plus 1.
 pub fn quorum(v: u16) -> u32
-    ensures { result ≡ quorumOf v }
+    ensures { result ≡ quorum_of v }
 {
     u32::count_ones(members(v) as u32) / 2 + 1
 }
 
 // The members of v among `who` are a quorum of it.
 pub fn reaches(v: u16, who: u8) -> bool
-    ensures { result ≡ reachesOf v who }
+    ensures { result ≡ reaches_of v who }
 {
     quorum(v) <= u32::count_ones((who & members(v)) as u32)
 }
 
 // Every update of a is in b.
 pub fn within(a: u16, b: u16) -> bool
-    ensures { result ≡ withinOf a b }
+    ensures { result ≡ within_of a b }
 {
     a & b == a
 }
 
 // Every update of a is in b, and they differ.
 pub fn inside(a: u16, b: u16) -> bool
-    ensures { result ≡ insideOf a b }
+    ensures { result ≡ inside_of a b }
 {
     within(a, b) && a != b
 }
 
 // The two differ and neither includes the other.
 pub fn clash(a: u16, b: u16) -> bool
-    ensures { result ≡ clashOf a b }
+    ensures { result ≡ clash_of a b }
 {
     if a == b {
         return false;
@@ -126,7 +126,7 @@ pub fn empty() -> Sequence
 
 // "it has at most 15": of a length above that, all fifteen count.
 pub fn count(q: Sequence) -> usize
-    ensures { (result ≡ length (viewsOf q)) × (result ≤ 15) }
+    ensures { (result ≡ length (views_of q)) × (result ≤ 15) }
 {
     if q.len < 15 {
         return q.len;
@@ -136,7 +136,7 @@ pub fn count(q: Sequence) -> usize
 
 // The view at place i; 0 where there is none.
 pub fn view_at(q: Sequence, i: usize) -> u16
-    ensures { result ≡ get_or (viewsOf q) i 0 }
+    ensures { result ≡ get_or (views_of q) i 0 }
 {
     if count(q) <= i {
         return 0;
@@ -146,13 +146,13 @@ pub fn view_at(q: Sequence, i: usize) -> u16
 
 // The same views, with the unused entries zero: two rows of the same views are then equal.
 pub fn kept(q: Sequence) -> Sequence
-    ensures { result ≡ row_of (viewsOf q) }
+    ensures { result ≡ row_of (views_of q) }
 {
     rest(empty(), q, 0)
 }
 
 pub fn has(q: Sequence, v: u16) -> bool
-    ensures { result ≡ has_of (viewsOf q) v }
+    ensures { result ≡ has_of (views_of q) v }
 {
     let n = count(q);
     let mut i: usize = 0;
@@ -167,7 +167,7 @@ pub fn has(q: Sequence, v: u16) -> bool
 
 // q has a view that own lacks.
 pub fn lacks(q: Sequence, own: Sequence) -> bool
-    ensures { result ≡ lacksOf (viewsOf q) (viewsOf own) }
+    ensures { result ≡ lacks_of (views_of q) (views_of own) }
 {
     let n = count(q);
     let mut i: usize = 0;
@@ -182,7 +182,7 @@ pub fn lacks(q: Sequence, own: Sequence) -> bool
 
 // Some view of own clashes with v.
 fn clashes(v: u16, own: Sequence) -> bool
-    ensures { result ≡ some (clashOf v) (viewsOf own) }
+    ensures { result ≡ some (clash_of v) (views_of own) }
 {
     let n = count(own);
     let mut i: usize = 0;
@@ -197,7 +197,7 @@ fn clashes(v: u16, own: Sequence) -> bool
 
 // Some view of q and some view of own differ and neither includes the other.
 pub fn conflict(q: Sequence, own: Sequence) -> bool
-    ensures { result ≡ conflictOf (viewsOf q) (viewsOf own) }
+    ensures { result ≡ conflict_of (views_of q) (views_of own) }
 {
     let n = count(q);
     let mut i: usize = 0;
@@ -211,7 +211,7 @@ pub fn conflict(q: Sequence, own: Sequence) -> bool
 }
 
 pub fn same(a: Sequence, b: Sequence) -> bool
-    ensures { result ≡ sameOf (viewsOf a) (viewsOf b) }
+    ensures { result ≡ same_of (views_of a) (views_of b) }
 {
     let n = count(a);
     if n != count(b) {
@@ -229,14 +229,14 @@ pub fn same(a: Sequence, b: Sequence) -> bool
 
 // The innermost view; 0 where there is none.
 pub fn least(q: Sequence) -> u16
-    ensures { result ≡ leastOf (viewsOf q) }
+    ensures { result ≡ least_of (views_of q) }
 {
     view_at(q, 0)
 }
 
 // The outermost view; 0 where there is none.
 pub fn most(q: Sequence) -> u16
-    ensures { result ≡ most_of (viewsOf q) }
+    ensures { result ≡ most_of (views_of q) }
 {
     let n = count(q);
     if n == 0 {
@@ -253,7 +253,7 @@ pub fn single(v: u16) -> Sequence
 
 // One view more, at its place.
 pub fn plus(v: u16, q: Sequence) -> Sequence
-    ensures { result ≡ row_of (plusOf v (viewsOf q)) }
+    ensures { result ≡ row_of (plus_of v (views_of q)) }
 {
     let mut a = empty();
     let n = count(q);
@@ -274,7 +274,7 @@ pub fn plus(v: u16, q: Sequence) -> Sequence
 
 // "otherwise own becomes the union of both"
 pub fn union(a: Sequence, b: Sequence) -> Sequence
-    ensures { result ≡ row_of (unionOf (viewsOf a) (viewsOf b)) }
+    ensures { result ≡ row_of (union_of (views_of a) (views_of b)) }
 {
     let mut r = kept(b);
     let mut i = count(a);
@@ -287,7 +287,7 @@ pub fn union(a: Sequence, b: Sequence) -> Sequence
 
 // The own sequence after the proposal q is heard: the Proposal rule.
 pub fn heard(own: Sequence, converged: Sequence, q: Sequence) -> Sequence
-    ensures { result ≡ row_of (heardOf (viewsOf own) (viewsOf converged) (viewsOf q)) }
+    ensures { result ≡ row_of (heard_of (views_of own) (views_of converged) (views_of q)) }
 {
     if !lacks(q, own) {
         return kept(own);
@@ -300,7 +300,7 @@ pub fn heard(own: Sequence, converged: Sequence, q: Sequence) -> Sequence
 
 // The views of q that strictly include w.
 pub fn beyond(w: u16, q: Sequence) -> Sequence
-    ensures { result ≡ row_of (beyondOf w (viewsOf q)) }
+    ensures { result ≡ row_of (beyond_of w (views_of q)) }
 {
     let mut a = empty();
     let n = count(q);
@@ -318,7 +318,7 @@ pub fn beyond(w: u16, q: Sequence) -> Sequence
 
 // Each view of q strictly includes the one before it, the first one v.
 pub fn above(v: u16, q: Sequence) -> bool
-    ensures { result ≡ above_of v (viewsOf q) }
+    ensures { result ≡ above_of v (views_of q) }
 {
     let n = count(q);
     let mut last = v;

@@ -13,91 +13,91 @@ use lib.Seq.{get_or-set_other}
 use borrow.Author.Tests.{eq-eqb, ne_eqb, lt-leb, ltb-true, ltb-false}
 use Rattle.views.proofs.Truth.{decided}
 use Rattle.rows.specs.Bytes.{placed, splice, cat, zeros}
-use Rattle.rows.proofs.Laws.{placed-fits}
+use Rattle.rows.proofs.Laws.{placed_fits}
 use Rattle.rows.proofs.Tables.{splice-whole, length-zeros}
-use Rattle.rules.specs.State.{Relay, noRelay, noDesk, free, World, relayAt, deskAt, withRelay, withDesk, crashedRelay, crashedDesk, startRelay, startDesk, start}
+use Rattle.rules.specs.State.{Relay, no_relay, no_desk, free, World, relay_at, desk_at, with_relay, with_desk, crashed_relay, crashed_desk, start_relay, start_desk, start}
 use Rattle.rules.specs.declared.Desk.{Desk}
-use Rattle.layout.specs.Layout.{deskWidth, worldDesks, worldWidth, relayBegin, deskBegin}
-use Rattle.layout.specs.Image.{headBytes, relayBytes, deskBytes, image, worldAt, goodBytes}
+use Rattle.layout.specs.Layout.{desk_width, world_desks, world_width, relay_begin, desk_begin}
+use Rattle.layout.specs.Image.{head_bytes, relay_bytes, desk_bytes, image, world_at, good_bytes}
 use Rattle.rules.specs.Messages.{bad-world, bad-step}
-use Rattle.rules.specs.Steps.{noReport, crashing}
-use Rattle.layout.specs.Lent.{kept, left, lentStart}
-use Rattle.layout.proofs.Widths.{length-head, length-desk, length-image}
-use Rattle.layout.proofs.World.{Shaped, good-image}
-use Rattle.layout.proofs.Write.{write-head, put-head, write-relay, write-desk, put-desk}
-use Rattle.layout.proofs.Fits.{replicate-at}
+use Rattle.rules.specs.Steps.{no_report, crashing}
+use Rattle.layout.specs.Lent.{kept, left, lent_start}
+use Rattle.layout.proofs.Widths.{length_head, length-desk, length-image}
+use Rattle.layout.proofs.World.{Shaped, good_image}
+use Rattle.layout.proofs.Write.{write_head, put_head, write_relay, write-desk, put-desk}
+use Rattle.layout.proofs.Fits.{replicate_at}
 use Rattle.layout.proofs.Zeros.{image-zeros}
 use Rattle.world.specs.Answer.{accepted}
-use Rattle.world.specs.Commits.{row_of, relaysTo, desksTo, begun}
+use Rattle.world.specs.Commits.{row_of, relays_to, desks_to, begun}
 use Rattle.world.proofs.Good.{shaped}
 
 -- ---- the relays and desks so far
 
 module _ (mask : ℕ) where
-  relays-long : (n : ℕ) → length (relaysTo mask n) ≡ 8
-  unfolding relaysTo
-  relays-long zero = refl
-  relays-long (suc n) = length-set (relaysTo mask n) n (startRelay mask n) ∙ relays-long n
+  relays_long : (n : ℕ) → length (relays_to mask n) ≡ 8
+  unfolding relays_to
+  relays_long zero = refl
+  relays_long (suc n) = length-set (relays_to mask n) n (start_relay mask n) ∙ relays_long n
 
-  desks-long : (n : ℕ) → length (desksTo mask n) ≡ 4
-  unfolding desksTo
-  desks-long zero = refl
-  desks-long (suc n) = length-set (desksTo mask n) n (startDesk mask) ∙ desks-long n
+  desks_long : (n : ℕ) → length (desks_to mask n) ≡ 4
+  unfolding desks_to
+  desks_long zero = refl
+  desks_long (suc n) = length-set (desks_to mask n) n (start_desk mask) ∙ desks_long n
 
-  begun-shaped : (n m : ℕ) → Shaped (begun mask n m)
+  begun_shaped : (n m : ℕ) → Shaped (begun mask n m)
   unfolding begun
-  begun-shaped n m = record { relays = relays-long n; desks = desks-long m; places = length-replicate 256 free }
+  begun_shaped n m = record { relays = relays_long n; desks = desks_long m; places = length-replicate 256 free }
 
   -- those not written yet
-  no-relay : (n k : ℕ) → n ≤ k → get_or (relaysTo mask n) k noRelay ≡ noRelay
-  unfolding relaysTo
-  no-relay zero k h = replicate-at 8 k noRelay
-  no-relay (suc n) k h = get_or-set_other (relaysTo mask n) n k (startRelay mask n) noRelay (λ (e : k ≡ n). omega arith) ∙ no-relay n k (omega arith)
+  no_relay_lem : (n k : ℕ) → n ≤ k → get_or (relays_to mask n) k no_relay ≡ no_relay
+  unfolding relays_to
+  no_relay_lem zero k h = replicate_at 8 k no_relay
+  no_relay_lem (suc n) k h = get_or-set_other (relays_to mask n) n k (start_relay mask n) no_relay (λ (e : k ≡ n). omega arith) ∙ no_relay_lem n k (omega arith)
 
-  relay-more : (n m : ℕ) → withRelay (begun mask n m) n (startRelay mask n) ≡ begun mask (n + 1) m
-  unfolding begun relaysTo
-  relay-more n m = rw (add-one, relaysTo)
+  relay_more : (n m : ℕ) → with_relay (begun mask n m) n (start_relay mask n) ≡ begun mask (n + 1) m
+  unfolding begun relays_to
+  relay_more n m = rw (add-one, relays_to)
 
-  desk-more : (n m : ℕ) → withDesk (begun mask n m) m (startDesk mask) ≡ begun mask n (m + 1)
-  unfolding begun desksTo
-  desk-more n m = rw (add-one, desksTo)
+  desk_more : (n m : ℕ) → with_desk (begun mask n m) m (start_desk mask) ≡ begun mask n (m + 1)
+  unfolding begun desks_to
+  desk_more n m = rw (add-one, desks_to)
 
-  head-put : (n : ℕ) → splice (relayBytes noRelay) 0 (headBytes (startRelay mask n)) ≡ relayBytes (startRelay mask n)
-  unfolding startRelay
-  head-put n = put-head noRelay (startRelay mask n) refl refl
+  head_put : (n : ℕ) → splice (relay_bytes no_relay) 0 (head_bytes (start_relay mask n)) ≡ relay_bytes (start_relay mask n)
+  unfolding start_relay
+  head_put n = put_head no_relay (start_relay mask n) refl refl
 
-  pub relay-written : (n m : ℕ) → n < 8 → placed (image (begun mask n m)) (relayBegin n) (headBytes (startRelay mask n)) ≡ image (begun mask (n + 1) m)
-  relay-written n m h =
+  pub relay_written : (n m : ℕ) → n < 8 → placed (image (begun mask n m)) (relay_begin n) (head_bytes (start_relay mask n)) ≡ image (begun mask (n + 1) m)
+  relay_written n m h =
       let w = begun mask n m in
-      let r = startRelay mask n in
-      let is : relayAt w n ≡ noRelay = unfold begun in no-relay n n (omega arith) in
-      placed-fits (image w) (headBytes r) (relayBegin n) (omega (arith, length-head r, length-image w))
-      ∙ ap (λ (k : ℕ). splice (image w) k (headBytes r)) (sym (add-zero (relayBegin n)))
-      ∙ write-relay w (begun-shaped n m) n 0 (headBytes r) r h (omega (arith, length-head r)) (rw is (head-put n))
-      ∙ ap image (relay-more n m)
+      let r = start_relay mask n in
+      let is : relay_at w n ≡ no_relay = unfold begun in no_relay_lem n n (omega arith) in
+      placed_fits (image w) (head_bytes r) (relay_begin n) (omega (arith, length_head r, length-image w))
+      ∙ ap (λ (k : ℕ). splice (image w) k (head_bytes r)) (sym (add-zero (relay_begin n)))
+      ∙ write_relay w (begun_shaped n m) n 0 (head_bytes r) r h (omega (arith, length_head r)) (rw is (head_put n))
+      ∙ ap image (relay_more n m)
 
-  pub desk-written : (n m : ℕ) → m < 4 → placed (image (begun mask n m)) (deskBegin m) (deskBytes (startDesk mask)) ≡ image (begun mask n (m + 1))
+  pub desk-written : (n m : ℕ) → m < 4 → placed (image (begun mask n m)) (desk_begin m) (desk_bytes (start_desk mask)) ≡ image (begun mask n (m + 1))
   desk-written n m h =
       let w = begun mask n m in
-      let d = startDesk mask in
-      placed-fits (image w) (deskBytes d) (deskBegin m) (omega (arith, length-desk d, length-image w))
-      ∙ put-desk w (begun-shaped n m) m d h
-      ∙ ap image (desk-more n m)
+      let d = start_desk mask in
+      placed_fits (image w) (desk_bytes d) (desk_begin m) (omega (arith, length-desk d, length-image w))
+      ∙ put-desk w (begun_shaped n m) m d h
+      ∙ ap image (desk_more n m)
 
   pub begun_all : begun mask 8 4 ≡ start mask
-  unfolding begun relaysTo desksTo start
+  unfolding begun relays_to desks_to start
   begun_all = refl
 
-  pub begun-none : (l : List ℕ) → length l ≡ worldWidth → placed l 0 (zeros worldWidth) ≡ image (begun mask 0 0)
+  pub begun-none : (l : List ℕ) → length l ≡ world_width → placed l 0 (zeros world_width) ≡ image (begun mask 0 0)
   begun-none l e =
-      let z = length-zeros worldWidth in
-      placed-fits l (zeros worldWidth) 0 (omega arith)
-      ∙ splice-whole l (zeros worldWidth) (z ∙ sym e)
+      let z = length-zeros world_width in
+      placed_fits l (zeros world_width) 0 (omega arith)
+      ∙ splice-whole l (zeros world_width) (z ∙ sym e)
       ∙ sym image-zeros
       ∙ ap image nothing
     where
-      nothing : record { relays = replicate 8 noRelay; desks = replicate 4 noDesk; places = replicate 256 free } ≡ begun mask 0 0
-      nothing = unfold begun relaysTo desksTo in refl
+      nothing : record { relays = replicate 8 no_relay; desks = replicate 4 no_desk; places = replicate 256 free } ≡ begun mask 0 0
+      nothing = unfold begun relays_to desks_to in refl
 
 -- so far in a loop
 pub record RelaysTo (mask : ℕ) (s₀ s : List ℕ) (n : ℕ) : Type 0 where
@@ -114,8 +114,8 @@ module _ {mask : ℕ} {s₀ : List ℕ} where
   pub relays-none : RelaysTo mask s₀ s₀ 0
   relays-none = record { within = omega arith; long = refl; is = λ e. e }
 
-  pub relays-more : {s : List ℕ} {n : ℕ} (t : List ℕ) → RelaysTo mask s₀ s n → n < 8 → length t ≡ length s → t ≡ placed s (relayBegin n) (headBytes (startRelay mask n)) → RelaysTo mask s₀ t (n + 1)
-  relays-more {s} {n} t r h l e = record { within = omega arith; long = l ∙ r.long; is = λ q. e ∙ rw (r.is q) (relay-written mask n 0 h) }
+  pub relays_more : {s : List ℕ} {n : ℕ} (t : List ℕ) → RelaysTo mask s₀ s n → n < 8 → length t ≡ length s → t ≡ placed s (relay_begin n) (head_bytes (start_relay mask n)) → RelaysTo mask s₀ t (n + 1)
+  relays_more {s} {n} t r h l e = record { within = omega arith; long = l ∙ r.long; is = λ q. e ∙ rw (r.is q) (relay_written mask n 0 h) }
 
   pub relays-all : {s : List ℕ} {n : ℕ} → RelaysTo mask s₀ s n → 8 ≤ n → s₀ ≡ image (begun mask 0 0) → s ≡ image (begun mask 8 0)
   relays-all {s} {n} r h e = let z : n ≡ 8 = omega (arith, r.within) in rw z at (r.is e)
@@ -123,64 +123,64 @@ module _ {mask : ℕ} {s₀ : List ℕ} where
   pub desks-none : DesksTo mask s₀ s₀ 0
   desks-none = record { within = omega arith; long = refl; is = λ e. e }
 
-  pub desks-more : {s : List ℕ} {n : ℕ} (t : List ℕ) → DesksTo mask s₀ s n → n < 4 → length t ≡ length s → t ≡ placed s (deskBegin n) (deskBytes (startDesk mask)) → DesksTo mask s₀ t (n + 1)
-  desks-more {s} {n} t r h l e = record { within = omega arith; long = l ∙ r.long; is = λ q. e ∙ rw (r.is q) (desk-written mask 8 n h) }
+  pub desks_more : {s : List ℕ} {n : ℕ} (t : List ℕ) → DesksTo mask s₀ s n → n < 4 → length t ≡ length s → t ≡ placed s (desk_begin n) (desk_bytes (start_desk mask)) → DesksTo mask s₀ t (n + 1)
+  desks_more {s} {n} t r h l e = record { within = omega arith; long = l ∙ r.long; is = λ q. e ∙ rw (r.is q) (desk-written mask 8 n h) }
 
   pub desks-all : {s : List ℕ} {n : ℕ} → DesksTo mask s₀ s n → 4 ≤ n → s₀ ≡ image (begun mask 8 0) → s ≡ image (begun mask 8 4)
   desks-all {s} {n} r h e = let z : n ≡ 4 = omega (arith, r.within) in rw z at (r.is e)
 
 -- ---- "CRASH only ends alive"
 
-crash-head : (r : Relay) → splice (headBytes r) 0 (0 ∷ []) ≡ headBytes (crashedRelay r)
-unfolding headBytes crashedRelay cat splice
-crash-head r = refl
+crash_head : (r : Relay) → splice (head_bytes r) 0 (0 ∷ []) ≡ head_bytes (crashed_relay r)
+unfolding head_bytes crashed_relay cat splice
+crash_head r = refl
 
-crash-row : (r : Relay) → splice (relayBytes r) 0 (0 ∷ []) ≡ relayBytes (crashedRelay r)
-unfolding crashedRelay
-crash-row r = write-head r (crashedRelay r) 0 (0 ∷ []) (omega arith) (crash-head r) refl refl
+crash-row : (r : Relay) → splice (relay_bytes r) 0 (0 ∷ []) ≡ relay_bytes (crashed_relay r)
+unfolding crashed_relay
+crash-row r = write_head r (crashed_relay r) 0 (0 ∷ []) (omega arith) (crash_head r) refl refl
 
-crash-seat : (d : Desk) → splice (deskBytes d) 0 (0 ∷ []) ≡ deskBytes (crashedDesk d)
-unfolding deskBytes crashedDesk cat splice
-crash-seat d = refl
+crash_seat : (d : Desk) → splice (desk_bytes d) 0 (0 ∷ []) ≡ desk_bytes (crashed_desk d)
+unfolding desk_bytes crashed_desk cat splice
+crash_seat d = refl
 
-module _ (b : List ℕ) (good : goodBytes b ≡ true) where
+module _ (b : List ℕ) (good : good_bytes b ≡ true) where
   abbrev w : World
-  w = worldAt b
+  w = world_at b
 
-  relay-crashed : (s : ℕ) → s < 8 → placed b (relayBegin s) (0 ∷ []) ≡ image (withRelay w s (crashedRelay (relayAt w s)))
-  relay-crashed s h =
-      ap (λ (l : List ℕ). placed l (relayBegin s) (0 ∷ [])) (sym (good-image b good))
-      ∙ placed-fits (image w) (0 ∷ []) (relayBegin s) (omega (arith, length-image w))
-      ∙ ap (λ (k : ℕ). splice (image w) k (0 ∷ [])) (sym (add-zero (relayBegin s)))
-      ∙ write-relay w (shaped b good) s 0 (0 ∷ []) (crashedRelay (relayAt w s)) h (omega arith) (crash-row (relayAt w s))
+  relay_crashed : (s : ℕ) → s < 8 → placed b (relay_begin s) (0 ∷ []) ≡ image (with_relay w s (crashed_relay (relay_at w s)))
+  relay_crashed s h =
+      ap (λ (l : List ℕ). placed l (relay_begin s) (0 ∷ [])) (sym (good_image b good))
+      ∙ placed_fits (image w) (0 ∷ []) (relay_begin s) (omega (arith, length-image w))
+      ∙ ap (λ (k : ℕ). splice (image w) k (0 ∷ [])) (sym (add-zero (relay_begin s)))
+      ∙ write_relay w (shaped b good) s 0 (0 ∷ []) (crashed_relay (relay_at w s)) h (omega arith) (crash-row (relay_at w s))
 
-  desk-crashed : (n : ℕ) → n < 4 → placed b (deskBegin n) (0 ∷ []) ≡ image (withDesk w n (crashedDesk (deskAt w n)))
-  desk-crashed n h =
-      ap (λ (l : List ℕ). placed l (deskBegin n) (0 ∷ [])) (sym (good-image b good))
-      ∙ placed-fits (image w) (0 ∷ []) (deskBegin n) (omega (arith, length-image w))
-      ∙ ap (λ (k : ℕ). splice (image w) (worldDesks + k) (0 ∷ [])) (sym (add-zero (n * deskWidth)))
-      ∙ write-desk w (shaped b good) n 0 (0 ∷ []) (crashedDesk (deskAt w n)) h (omega arith) (crash-seat (deskAt w n))
+  desk_crashed : (n : ℕ) → n < 4 → placed b (desk_begin n) (0 ∷ []) ≡ image (with_desk w n (crashed_desk (desk_at w n)))
+  desk_crashed n h =
+      ap (λ (l : List ℕ). placed l (desk_begin n) (0 ∷ [])) (sym (good_image b good))
+      ∙ placed_fits (image w) (0 ∷ []) (desk_begin n) (omega (arith, length-image w))
+      ∙ ap (λ (k : ℕ). splice (image w) (world_desks + k) (0 ∷ [])) (sym (add-zero (n * desk_width)))
+      ∙ write-desk w (shaped b good) n 0 (0 ∷ []) (crashed_desk (desk_at w n)) h (omega arith) (crash_seat (desk_at w n))
 
-  pub crash-left : (who : ℕ) → who < 12 → (l : List ℕ) → l ≡ placed b (row_of who) (0 ∷ []) → accepted noReport l ≡ left b (crashing w who)
+  pub crash-left : (who : ℕ) → who < 12 → (l : List ℕ) → l ≡ placed b (row_of who) (0 ∷ []) → accepted no_report l ≡ left b (crashing w who)
   unfolding crashing
   crash-left who h l e =
-      rw e (⊎_elim (λ t. rw t (rw (relay-crashed who (ltb-true who 8 t)))) (λ t. rw t (rw (desk-crashed (who - 8) (omega (arith, ltb-false who 8 t))))) (decided (ltb who 8)))
+      rw e (⊎_elim (λ t. rw t (rw (relay_crashed who (ltb-true who 8 t)))) (λ t. rw t (rw (desk_crashed (who - 8) (omega (arith, ltb-false who 8 t))))) (decided (ltb who 8)))
 
 -- ---- what is left of a start
 
 module _ (b : List ℕ) (mask : ℕ) where
-  pub start-misfit : length b ≢ worldWidth → kept bad-world b ≡ lentStart b mask
-  unfolding lentStart
-  start-misfit h = rw (ne_eqb (length b) worldWidth h)
+  pub start_misfit : length b ≢ world_width → kept bad-world b ≡ lent_start b mask
+  unfolding lent_start
+  start_misfit h = rw (ne_eqb (length b) world_width h)
 
-  module _ (long : length b ≡ worldWidth) where
-    pub start_none : mask ≡ 0 → kept bad-step b ≡ lentStart b mask
-    unfolding lentStart
-    start_none e = rw (eq-eqb (length b) worldWidth long, eq-eqb mask 0 e)
+  module _ (long : length b ≡ world_width) where
+    pub start_none : mask ≡ 0 → kept bad-step b ≡ lent_start b mask
+    unfolding lent_start
+    start_none e = rw (eq-eqb (length b) world_width long, eq-eqb mask 0 e)
 
-    pub start-done : mask ≢ 0 → mask < 256 → (x y z : List ℕ) → x ≡ placed b 0 (zeros worldWidth) → (x ≡ image (begun mask 0 0) → y ≡ image (begun mask 8 0)) → (y ≡ image (begun mask 8 0) → z ≡ image (begun mask 8 4))
-        → accepted noReport z ≡ lentStart b mask
-    unfolding lentStart
+    pub start-done : mask ≢ 0 → mask < 256 → (x y z : List ℕ) → x ≡ placed b 0 (zeros world_width) → (x ≡ image (begun mask 0 0) → y ≡ image (begun mask 8 0)) → (y ≡ image (begun mask 8 0) → z ≡ image (begun mask 8 4))
+        → accepted no_report z ≡ lent_start b mask
+    unfolding lent_start
     start-done h k x y z e f g =
-        rw (eq-eqb (length b) worldWidth long, ne_eqb mask 0 h, lt-leb 256 mask k)
-        (ap (accepted noReport) (g (f (e ∙ begun-none mask b long)) ∙ ap image (begun_all mask)))
+        rw (eq-eqb (length b) world_width long, ne_eqb mask 0 h, lt-leb 256 mask k)
+        (ap (accepted no_report) (g (f (e ∙ begun-none mask b long)) ∙ ap image (begun_all mask)))

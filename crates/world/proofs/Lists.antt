@@ -11,12 +11,12 @@ use native.Mathlib.Omega.{arith}
 use lib.Dec.{leb}
 use lib.ListN.{get_or-eq_default, length, get_or, set}
 use borrow.Author.Tests.{leb-true, leb-false}
-use Rattle.views.proofs.Truth.{decided, contrary, neither-true, either_true}
+use Rattle.views.proofs.Truth.{decided, contrary, neither_true, either_true}
 use Rattle.rows.specs.Bytes.{tab}
 use Rattle.rules.specs.Sets.{if◌then◌else◌, those}
 use Rattle.rules.proofs.Lists.{those-append}
 use Rattle.world.specs.Commits.{First}
-use Rattle.locality.proofs.Seat.{seat, seat-is}
+use Rattle.locality.proofs.Seat.{seat, seat_is}
 
 -- ---- a search from 0 on
 
@@ -25,8 +25,8 @@ pub record Missed (n : ℕ) (f : ℕ → Bool) (i : ℕ) : Type 0 where
   pub within : i ≤ n
   pub below : (k : ℕ) → k < i → f k ≡ false
 
-pub missed-none : {n : ℕ} {f : ℕ → Bool} → Missed n f 0
-missed-none {n} {f} = record { within = omega arith; below = λ k h. absurd (omega arith) }
+pub missed_none : {n : ℕ} {f : ℕ → Bool} → Missed n f 0
+missed_none {n} {f} = record { within = omega arith; below = λ k h. absurd (omega arith) }
 
 pub missed_more : {n : ℕ} {f : ℕ → Bool} {i : ℕ} → Missed n f i → i < n → f i ≡ false → Missed n f (i + 1)
 missed_more {n} {f} {i} m h e = record { within = omega arith; below = λ k p. go k p (ℕ_discrete k i) }
@@ -44,20 +44,20 @@ found_none {n} {f} {i} m h = record { within = omega arith; below = λ k p. m.be
 -- ---- the part that passes
 
 module _ {A : Type 0} (f : A → Bool) (g : ℕ → A) (i : ℕ) where
-  pub those-more : f (g i) ≡ true → those f (tab (i + 1) g) ≡ those f (tab i g) ++ (g i ∷ [])
+  pub those_more : f (g i) ≡ true → those f (tab (i + 1) g) ≡ those f (tab i g) ++ (g i ∷ [])
   unfolding tab
-  those-more e = rw (add-one, tab, those-append f (tab i g) (g i ∷ [])) (unfold those in (rw e))
+  those_more e = rw (add-one, tab, those-append f (tab i g) (g i ∷ [])) (unfold those in (rw e))
 
-  pub those-same : f (g i) ≡ false → those f (tab (i + 1) g) ≡ those f (tab i g)
+  pub those_same : f (g i) ≡ false → those f (tab (i + 1) g) ≡ those f (tab i g)
   unfolding tab
-  those-same e = rw (add-one, tab, those-append f (tab i g) (g i ∷ [])) (unfold those in (rw e (append-nil (those f (tab i g)))))
+  those_same e = rw (add-one, tab, those-append f (tab i g) (g i ∷ [])) (unfold those in (rw e (append-nil (those f (tab i g)))))
 
 module _ {A : Type 0} (f g : A → Bool) (h : (x : A) → f x ≡ true → g x ≡ true) where
   -- what passes f passes g before
-  pub those-again : (xs : List A) → those f (those g xs) ≡ those f xs
+  pub those_again : (xs : List A) → those f (those g xs) ≡ those f xs
   unfolding those
-  those-again [] = refl
-  those-again (x ∷ xs) = go (g x) refl (f x) refl (those-again xs)
+  those_again [] = refl
+  those_again (x ∷ xs) = go (g x) refl (f x) refl (those_again xs)
     where
       go : (t : Bool) → g x ≡ t → (u : Bool) → f x ≡ u → those f (those g xs) ≡ those f xs → those f (if t then x ∷ those g xs else those g xs) ≡ (if u then x ∷ those f xs else those f xs)
       go true e true k r = rw (k, r)
@@ -70,9 +70,9 @@ module _ {A : Type 0} (f g : A → Bool) (h : (x : A) → f x ≡ true → g x �
 module _ {A : Type 0} (xs : List A) (d : A) (blank f : A → Bool) (n : ℕ) (stop : ℕ → Bool)
     (few : length xs ≤ n) (ends : blank d ≡ true) (filled : (k : ℕ) → k < length xs → blank (get_or xs k d) ≡ false)
     (is : (k : ℕ) → k < n → stop k ≡ (blank (get_or xs k d) || f (get_or xs k d))) where
-  pub seat-found : (i : ℕ) → First n stop i → seat f xs ≡ i
-  seat-found i r =
-      seat-is f xs i d short (λ k p. (neither-true (blank (get_or xs k d)) (f (get_or xs k d)) (sym (is k (omega (arith, r.within))) ∙ r.below k p)).1) here
+  pub seat_found : (i : ℕ) → First n stop i → seat f xs ≡ i
+  seat_found i r =
+      seat_is f xs i d short (λ k p. (neither_true (blank (get_or xs k d)) (f (get_or xs k d)) (sym (is k (omega (arith, r.within))) ∙ r.below k p)).1) here
     where
       last : length xs < i → stop (length xs) ≡ true
       last h = is (length xs) (omega (arith, r.within)) ∙ rw (get_or-eq_default xs d {n = length xs} (omega arith), ends)

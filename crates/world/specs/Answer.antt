@@ -1,7 +1,7 @@
 -- What an answer of the code says: document 01's number, and the event with who it is about. Assumes nothing.
 use Rattle.std.specs.Prelude.{List, ◌∷◌, ℕ}
-use Rattle.rules.specs.Messages.{opened, readDone, writeDone}
-use Rattle.rules.specs.Steps.{noReport}
+use Rattle.rules.specs.Messages.{opened, read_done, write_done}
+use Rattle.rules.specs.Steps.{no_report}
 use Rattle.rules.specs.Steps as rules
 use Rattle.layout.specs.Lent.{Lent}
 use Rattle.rules.specs.Runs.{fields}
@@ -10,19 +10,19 @@ use Rattle.world.specs.declared.Report.{Report}
 use Rattle.world.specs.declared.Report.TheVariants.{Nothing, Opened, ReadDone, WriteDone}
 
 -- "who is the relay for event 1, the desk 0 to 3 for events 2 and 3"
-unfoldable pub reportOf : Report → rules.Report
-reportOf Nothing = noReport
-reportOf (Opened relay view) = record { event = opened view; who = relay }
-reportOf (ReadDone desk pair) = record { event = readDone pair; who = desk }
-reportOf (WriteDone desk pair) = record { event = writeDone pair; who = desk }
+unfoldable pub report_of : Report → rules.Report
+report_of Nothing = no_report
+report_of (Opened relay view) = record { event = opened view; who = relay }
+report_of (ReadDone desk pair) = record { event = read_done pair; who = desk }
+report_of (WriteDone desk pair) = record { event = write_done pair; who = desk }
 
 -- an answer, and the buffer after it
 unfoldable pub lent_of : Answer → List ℕ → Lent
-lent_of a b = record { answer = a.number; report = reportOf a.report; buffer = b }
+lent_of a b = record { answer = a.number; report = report_of a.report; buffer = b }
 
 -- "answer, event, who, stamp count, stamp desk [..], and value (events 2, 3) or view (event 1), zeros where none"
 unfoldable pub columns : Answer → List ℕ
-columns a = a.number ∷ fields (reportOf a.report).event (reportOf a.report).who
+columns a = a.number ∷ fields (report_of a.report).event (report_of a.report).who
 
 -- done
 abbrev pub accepted : rules.Report → List ℕ → Lent

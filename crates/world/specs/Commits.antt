@@ -1,16 +1,16 @@
 -- In what parts the code takes a step: what it looks up in the buffer, and what it makes of a plan. Assumes nothing.
 use Rattle.std.specs.Prelude.{◌≡◌, Bool, true, false, not, ◌&&◌, ◌||◌, List, ℕ, zero, suc, ◌+◌, ◌*◌, ◌-◌, ◌≤◌, ◌<◌, eqb, leb, ltb, get_or, set, replicate}
-use Rattle.rows.specs.Bytes.{u16At, tab}
-use Rattle.rules.specs.Sets.{if◌then◌else◌, bit, those, inside, relayCount, deskCount, everyone}
+use Rattle.rows.specs.Bytes.{u16_at, tab}
+use Rattle.rules.specs.Sets.{if◌then◌else◌, bit, those, inside, relay_count, desk_count, everyone}
 use Rattle.rules.specs.Messages.{Body, Message, Answer}
-use Rattle.rules.specs.State.{Transfer, Relay, Place, free, waiting, noRelay, noDesk, World, relayAt, deskAt, placeAt, startRelay, startDesk}
+use Rattle.rules.specs.State.{Transfer, Relay, Place, free, waiting, no_relay, no_desk, World, relay_at, desk_at, place_at, start_relay, start_desk}
 use Rattle.rules.specs.declared.Desk.{Desk}
-use Rattle.rules.specs.Steps.{JOIN, TIMER, READ, WRITE, DELIVER, CRASH, Act, deliver, drop, Outcome, relayDoes, deskDoes, freed}
-use Rattle.layout.specs.Layout.{generatorWidth, transferNew, transferWidth, relayBegin, deskBegin, placeBegin}
-use Rattle.layout.specs.Image.{transferAt, worldAt}
+use Rattle.rules.specs.Steps.{JOIN, TIMER, READ, WRITE, DELIVER, CRASH, Act, deliver, drop, Outcome, relay_does, desk_does, freed}
+use Rattle.layout.specs.Layout.{generator_width, transfer_new, transfer_width, relay_begin, desk_begin, place_begin}
+use Rattle.layout.specs.Image.{transfer_at, world_at}
 use Rattle.layout.specs.Lent.{Lent, left}
 use Rattle.locality.specs.Narrow.{widens}
-use Rattle.locality.specs.Asked.{relayAsked, deskAsked}
+use Rattle.locality.specs.Asked.{relay_asked, desk_asked}
 
 -- r is the first number below n that passes the test, or n
 pub record First (n : ℕ) (f : ℕ → Bool) (r : ℕ) : Type 0 where
@@ -22,36 +22,36 @@ pub record First (n : ℕ) (f : ℕ → Bool) (r : ℕ) : Type 0 where
 
 -- the row of who
 abbrev pub row_of : ℕ → ℕ
-row_of who = if ltb who relayCount then relayBegin who else deskBegin (who - relayCount)
+row_of who = if ltb who relay_count then relay_begin who else desk_begin (who - relay_count)
 
 -- the place p is free: its kind is 0
-unfoldable pub freeRow : List ℕ → ℕ → Bool
-freeRow l p = eqb (get_or l (placeBegin p) 0) 0
+unfoldable pub free_row : List ℕ → ℕ → Bool
+free_row l p = eqb (get_or l (place_begin p) 0) 0
 
 -- how many of the places below n are free
-unfoldable pub freeRows : List ℕ → ℕ → ℕ
-freeRows l zero = 0
-freeRows l (suc n) = freeRows l n + (if freeRow l n then 1 else 0)
+unfoldable pub free_rows : List ℕ → ℕ → ℕ
+free_rows l zero = 0
+free_rows l (suc n) = free_rows l n + (if free_row l n then 1 else 0)
 
 -- no place below p is free
 pub record TakenTo (l : List ℕ) (p : ℕ) : Type 0 where
   pub within : p ≤ 256
-  pub each : (k : ℕ) → k < p → freeRow l k ≡ false
+  pub each : (k : ℕ) → k < p → free_row l k ≡ false
 
 -- row k of the generators that begin at i is not filled, or is for the view v; row k of the transfers, for the move from o to n
-unfoldable pub endsView : List ℕ → ℕ → ℕ → ℕ → Bool
-endsView l i v k = eqb (u16At l (i + k * generatorWidth)) 0 || eqb (u16At l (i + k * generatorWidth)) v
+unfoldable pub ends_view : List ℕ → ℕ → ℕ → ℕ → Bool
+ends_view l i v k = eqb (u16_at l (i + k * generator_width)) 0 || eqb (u16_at l (i + k * generator_width)) v
 
-unfoldable pub endsMove : List ℕ → ℕ → ℕ → ℕ → ℕ → Bool
-endsMove l i o n k = eqb (u16At l (i + k * transferWidth + transferNew)) 0 || (eqb (u16At l (i + k * transferWidth)) o && eqb (u16At l (i + k * transferWidth + transferNew)) n)
+unfoldable pub ends_move : List ℕ → ℕ → ℕ → ℕ → ℕ → Bool
+ends_move l i o n k = eqb (u16_at l (i + k * transfer_width + transfer_new)) 0 || (eqb (u16_at l (i + k * transfer_width)) o && eqb (u16_at l (i + k * transfer_width + transfer_new)) n)
 
 -- of the first n transfer rows from i on, those that stay when v is entered
-unfoldable pub keptRows : List ℕ → ℕ → ℕ → ℕ → List Transfer
-keptRows l i v n = those (λ t. inside v t.new) (tab n (λ k. transferAt l (i + k * transferWidth)))
+unfoldable pub kept_rows : List ℕ → ℕ → ℕ → ℕ → List Transfer
+kept_rows l i v n = those (λ t. inside v t.new) (tab n (λ k. transfer_at l (i + k * transfer_width)))
 
 -- "each to its receivers in ascending order": those below n of a set
-unfoldable pub receiversBelow : ℕ → ℕ → List ℕ
-receiversBelow m n = those (bit m) (tab n (λ k. k))
+unfoldable pub receivers_below : ℕ → ℕ → List ℕ
+receivers_below m n = those (bit m) (tab n (λ k. k))
 
 -- ---- committed
 
@@ -59,53 +59,53 @@ unfoldable pub message : ℕ → Body → ℕ → Message
 message from b to = record { from = from; to = to; body = b }
 
 -- the delivered place is free; 256 is none
-unfoldable pub freedAt : World → ℕ → World
-freedAt w p = if ltb p 256 then freed w p else w
+unfoldable pub freed_at : World → ℕ → World
+freed_at w p = if ltb p 256 then freed w p else w
 
-abbrev pub isWaiting : Place → Bool
-isWaiting free = false
-isWaiting (waiting m) = true
+abbrev pub is_waiting : Place → Bool
+is_waiting free = false
+is_waiting (waiting m) = true
 
 -- where a place is delivered, it holds a message
 unfoldable pub delivered : World → ℕ → Bool
-delivered w p = not (ltb p 256) || isWaiting (placeAt w p)
+delivered w p = not (ltb p 256) || is_waiting (place_at w p)
 
 -- what is left when the relay s, of whose part the rule made a, or the desk d answers; n counts the delivered
-unfoldable pub relayLeft : List ℕ → ℕ → ℕ → ℕ → Answer Relay → Lent
-relayLeft b n p s a = left b (relayDoes (freedAt (worldAt b) p) n s (widens (relayAt (worldAt b) s) a))
+unfoldable pub relay_left : List ℕ → ℕ → ℕ → ℕ → Answer Relay → Lent
+relay_left b n p s a = left b (relay_does (freed_at (world_at b) p) n s (widens (relay_at (world_at b) s) a))
 
-unfoldable pub deskLeft : List ℕ → ℕ → ℕ → ℕ → Answer Desk → Lent
-deskLeft b n p d a = left b (deskDoes (freedAt (worldAt b) p) n d a)
+unfoldable pub desk_left : List ℕ → ℕ → ℕ → ℕ → Answer Desk → Lent
+desk_left b n p d a = left b (desk_does (freed_at (world_at b) p) n d a)
 
 -- ---- asked: what a kind asks, and who acts
 
-abbrev pub relayActs : World → ℕ → ℕ → Outcome
-relayActs w kind s = relayDoes w 0 s (relayAsked kind s (relayAt w s))
+abbrev pub relay_acts : World → ℕ → ℕ → Outcome
+relay_acts w kind s = relay_does w 0 s (relay_asked kind s (relay_at w s))
 
-abbrev pub deskActs : World → ℕ → ℕ → ℕ → Outcome
-deskActs w kind n x = deskDoes w 0 n (deskAsked kind x (deskAt w n))
+abbrev pub desk_acts : World → ℕ → ℕ → ℕ → Outcome
+desk_acts w kind n x = desk_does w 0 n (desk_asked kind x (desk_at w n))
 
 -- "6 DELIVER place, 7 DROP place"
-abbrev pub placeAct : ℕ → ℕ → Act
-placeAct kind p = if eqb kind DELIVER then deliver p else drop p
+abbrev pub place_act : ℕ → ℕ → Act
+place_act kind p = if eqb kind DELIVER then deliver p else drop p
 
 -- who acts in a step of the kind, 0..7 relays, 8..11 desks; 12 is nobody
-unfoldable pub actorOf : ℕ → ℕ → ℕ
-actorOf kind id =
-    if (leb JOIN kind && leb kind TIMER) && ltb id relayCount then id
-    else if (leb READ kind && leb kind WRITE) && ltb id deskCount then relayCount + id
+unfoldable pub actor_of : ℕ → ℕ → ℕ
+actor_of kind id =
+    if (leb JOIN kind && leb kind TIMER) && ltb id relay_count then id
+    else if (leb READ kind && leb kind WRITE) && ltb id desk_count then relay_count + id
     else if eqb kind CRASH && ltb id everyone then id
     else everyone
 
 -- ---- begun: the first n relays and m desks of a start are there
 
-unfoldable pub relaysTo : ℕ → ℕ → List Relay
-relaysTo mask zero = replicate 8 noRelay
-relaysTo mask (suc n) = set (relaysTo mask n) n (startRelay mask n)
+unfoldable pub relays_to : ℕ → ℕ → List Relay
+relays_to mask zero = replicate 8 no_relay
+relays_to mask (suc n) = set (relays_to mask n) n (start_relay mask n)
 
-unfoldable pub desksTo : ℕ → ℕ → List Desk
-desksTo mask zero = replicate 4 noDesk
-desksTo mask (suc n) = set (desksTo mask n) n (startDesk mask)
+unfoldable pub desks_to : ℕ → ℕ → List Desk
+desks_to mask zero = replicate 4 no_desk
+desks_to mask (suc n) = set (desks_to mask n) n (start_desk mask)
 
 unfoldable pub begun : ℕ → ℕ → ℕ → World
-begun mask n m = record { relays = relaysTo mask n; desks = desksTo mask m; places = replicate 256 free }
+begun mask n m = record { relays = relays_to mask n; desks = desks_to mask m; places = replicate 256 free }

@@ -1,76 +1,76 @@
 -- What a run leaves in the lent buffers: of one step, and of a whole sheet. Assumes nothing.
 use Rattle.std.specs.Prelude.{◌≡◌, List, [], ◌∷◌, ◌++◌, ℕ, ◌+◌, ◌*◌, ◌-◌, eqb, ltb, length, get_or, drop}
-use Rattle.rows.specs.Bytes.{placed, fields_of, u16At, u32_at}
-use Rattle.rules.specs.Sets.{if◌then◌else◌, placeCount}
+use Rattle.rows.specs.Bytes.{placed, fields_of, u16_at, u32_at}
+use Rattle.rules.specs.Sets.{if◌then◌else◌, place_count}
 use Rattle.rules.specs.Messages as table
 use Rattle.rules.specs.State.{World, start}
 use Rattle.rules.specs.declared.Step.{Step}
 use Rattle.rules.specs.Steps.{Outcome, after, report, stepped}
 use Rattle.rules.specs.Sheets as sheets
-use Rattle.rules.specs.Sheets.{Sheet, bad, sheet, sheetIn}
-use Rattle.rules.specs.Runs.{outcomes, lastWorld, answer, fields}
-use Rattle.layout.specs.Layout.{byteWidth, u16Width, u32Width, worldWidth}
+use Rattle.rules.specs.Sheets.{Sheet, bad, sheet, sheet_in}
+use Rattle.rules.specs.Runs.{outcomes, last_world, answer, fields}
+use Rattle.layout.specs.Layout.{byte_width, u16_width, u32_width, world_width}
 use Rattle.layout.specs.Image.{image}
 use Rattle.world.specs.declared.run.Columns.{Columns}
 use Rattle.world.specs.declared.run.Traced.{Traced}
-use Rattle.world.specs.Commits.{freeRows}
+use Rattle.world.specs.Commits.{free_rows}
 
 -- how many places hold a message, whatever else the bytes are: those that are not free
-abbrev pub waitingRows : List ℕ → ℕ
-waitingRows b = placeCount - freeRows b placeCount
+abbrev pub waiting_rows : List ℕ → ℕ
+waiting_rows b = place_count - free_rows b place_count
 
 -- ---- rows
 
 -- the columns after the answer
-unfoldable pub columnsOf : Columns → List ℕ
-columnsOf r = r.event ∷ r.who ∷ r.count ∷ r.desk ∷ r.last ∷ []
+unfoldable pub columns_of : Columns → List ℕ
+columns_of r = r.event ∷ r.who ∷ r.count ∷ r.desk ∷ r.last ∷ []
 
 -- where each column of a row stands, and how wide the row is: answer, event, who, stamp count, stamp desk, value or view
-abbrev pub answerColumn : ℕ
-answerColumn = 0
+abbrev pub answer_column : ℕ
+answer_column = 0
 
-abbrev pub eventColumn : ℕ
-eventColumn = answerColumn + byteWidth
+abbrev pub event_column : ℕ
+event_column = answer_column + byte_width
 
-abbrev pub whoColumn : ℕ
-whoColumn = eventColumn + byteWidth
+abbrev pub who_column : ℕ
+who_column = event_column + byte_width
 
-abbrev pub countColumn : ℕ
-countColumn = whoColumn + byteWidth
+abbrev pub count_column : ℕ
+count_column = who_column + byte_width
 
-abbrev pub deskColumn : ℕ
-deskColumn = countColumn + u16Width
+abbrev pub desk_column : ℕ
+desk_column = count_column + u16_width
 
-abbrev pub lastColumn : ℕ
-lastColumn = deskColumn + byteWidth
+abbrev pub last_column : ℕ
+last_column = desk_column + byte_width
 
-abbrev pub traceRowWidth : ℕ
-traceRowWidth = lastColumn + u32Width
+abbrev pub trace_row_width : ℕ
+trace_row_width = last_column + u32_width
 
 -- the columns in these widths, one after another, high byte first
-abbrev pub columnsBytes : List ℕ → List ℕ
-columnsBytes = fields_of (byteWidth ∷ byteWidth ∷ byteWidth ∷ u16Width ∷ byteWidth ∷ u32Width ∷ [])
+abbrev pub columns_bytes : List ℕ → List ℕ
+columns_bytes = fields_of (byte_width ∷ byte_width ∷ byte_width ∷ u16_width ∷ byte_width ∷ u32_width ∷ [])
 
 -- the columns of the row at o
-unfoldable pub columnsAt : List ℕ → ℕ → List ℕ
-columnsAt l o =
-    get_or l (o + answerColumn) 0 ∷ get_or l (o + eventColumn) 0 ∷ get_or l (o + whoColumn) 0
-    ∷ u16At l (o + countColumn) ∷ get_or l (o + deskColumn) 0 ∷ u32_at l (o + lastColumn)
+unfoldable pub columns_at : List ℕ → ℕ → List ℕ
+columns_at l o =
+    get_or l (o + answer_column) 0 ∷ get_or l (o + event_column) 0 ∷ get_or l (o + who_column) 0
+    ∷ u16_at l (o + count_column) ∷ get_or l (o + desk_column) 0 ∷ u32_at l (o + last_column)
     ∷ []
 
 -- what a line of the record says of a step after its number, as a row
-unfoldable pub traceRow : Outcome → List ℕ
-traceRow o = columnsBytes (answer o ∷ fields (report o).event (report o).who)
+unfoldable pub trace_row : Outcome → List ℕ
+trace_row o = columns_bytes (answer o ∷ fields (report o).event (report o).who)
 
 -- a row for each step
-unfoldable pub traceRows : List Outcome → List ℕ
-traceRows [] = []
-traceRows (o ∷ os) = traceRow o ++ traceRows os
+unfoldable pub trace_rows : List Outcome → List ℕ
+trace_rows [] = []
+trace_rows (o ∷ os) = trace_row o ++ trace_rows os
 
 -- the step k of W: l are the rows' bytes before it, and its row is written at `at`; w and rows are the buffers after it
 pub record Stepped (W : World) (k : Step) (at : ℕ) (l w rows : List ℕ) : Type 0 where
   pub world : w ≡ image (after W (stepped W k))
-  pub row : rows ≡ placed l at (traceRow (stepped W k))
+  pub row : rows ≡ placed l at (trace_row (stepped W k))
 
 -- ---- a sheet b, run in the world's buffer w, with something of its run laid in out
 
@@ -88,49 +88,49 @@ room_for needed room (sheet mask ks) = if ltb room (needed (length ks)) then no_
 
 -- BAD WORLD: "at a start, wrong length". Decided before anything is done.
 abbrev pub ruling : (ℕ → ℕ) → List ℕ → List ℕ → List ℕ → Ruling
-ruling needed b w out = if eqb (length w) worldWidth then room_for needed (length out) (sheetIn b) else bad-world
+ruling needed b w out = if eqb (length w) world_width then room_for needed (length out) (sheet_in b) else bad-world
 
 -- document 01's numbers
-abbrev pub numberBy : Ruling → ℕ
-numberBy bad-world = table.number table.bad-world
-numberBy bad-sheet = sheets.number sheets.bad-sheet
-numberBy no_room = table.number table.no_room
-numberBy (runs mask ks) = 0
+abbrev pub number_by : Ruling → ℕ
+number_by bad-world = table.number table.bad-world
+number_by bad-sheet = sheets.number sheets.bad-sheet
+number_by no_room = table.number table.no_room
+number_by (runs mask ks) = 0
 
 -- a refusal changes no byte of the world
-abbrev pub worldBy : List ℕ → Ruling → List ℕ
-worldBy w bad-world = w
-worldBy w bad-sheet = w
-worldBy w no_room = w
-worldBy w (runs mask ks) = image (lastWorld (start mask) ks)
+abbrev pub world_by : List ℕ → Ruling → List ℕ
+world_by w bad-world = w
+world_by w bad-sheet = w
+world_by w no_room = w
+world_by w (runs mask ks) = image (last_world (start mask) ks)
 
 -- ---- its trace
 
-abbrev pub tracesWide : ℕ → ℕ
-tracesWide n = n * traceRowWidth
+abbrev pub traces_wide : ℕ → ℕ
+traces_wide n = n * trace_row_width
 
 unfoldable pub traced : List ℕ → List ℕ → List ℕ → Ruling
-traced b w rows = ruling tracesWide b w rows
+traced b w rows = ruling traces_wide b w rows
 
 -- how many steps are run
-abbrev pub stepsBy : Ruling → ℕ
-stepsBy bad-world = 0
-stepsBy bad-sheet = 0
-stepsBy no_room = 0
-stepsBy (runs mask ks) = length ks
+abbrev pub steps_by : Ruling → ℕ
+steps_by bad-world = 0
+steps_by bad-sheet = 0
+steps_by no_room = 0
+steps_by (runs mask ks) = length ks
 
-abbrev pub traceBy : Ruling → List ℕ
-traceBy bad-world = []
-traceBy bad-sheet = []
-traceBy no_room = []
-traceBy (runs mask ks) = traceRows (outcomes (start mask) ks)
+abbrev pub trace_by : Ruling → List ℕ
+trace_by bad-world = []
+trace_by bad-sheet = []
+trace_by no_room = []
+trace_by (runs mask ks) = trace_rows (outcomes (start mask) ks)
 
-unfoldable pub traceAnswer : List ℕ → List ℕ → List ℕ → Traced
-traceAnswer b w rows = let x = traced b w rows in record { answer = numberBy x; steps = stepsBy x }
+unfoldable pub trace_answer : List ℕ → List ℕ → List ℕ → Traced
+trace_answer b w rows = let x = traced b w rows in record { answer = number_by x; steps = steps_by x }
 
-unfoldable pub traceWorld : List ℕ → List ℕ → List ℕ → List ℕ
-traceWorld b w rows = worldBy w (traced b w rows)
+unfoldable pub trace_world : List ℕ → List ℕ → List ℕ → List ℕ
+trace_world b w rows = world_by w (traced b w rows)
 
 -- the rows at the front; the bytes past them stay
-unfoldable pub traceLeft : List ℕ → List ℕ → List ℕ → List ℕ
-traceLeft b w rows = let l = traceBy (traced b w rows) in l ++ drop (length l) rows
+unfoldable pub trace_left : List ℕ → List ℕ → List ℕ → List ℕ
+trace_left b w rows = let l = trace_by (traced b w rows) in l ++ drop (length l) rows

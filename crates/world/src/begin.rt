@@ -1,8 +1,8 @@
 // What a start writes: the relays, and the desks.
 ghost use Rattle.std.specs.Prelude.{◌≡◌, [], ◌<◌};
-ghost use Rattle.rules.specs.State.{startRelay, startDesk};
+ghost use Rattle.rules.specs.State.{start_relay, start_desk};
 ghost use Rattle.layout.specs.Image.{image};
-ghost use Rattle.state.specs.Meaning.{relayOf};
+ghost use Rattle.state.specs.Meaning.{relay_of};
 ghost use Rattle.world.specs.Commits.{begun};
 
 use rules::{Desk, Phase};
@@ -11,7 +11,7 @@ use state::Head;
 // "its relays are entered and active, the others have view 0 and aren't"
 fn start_head(mask: u8, s: u8) -> Head
     requires { s < 8 }
-    ensures { relayOf result [] [] ≡ startRelay mask s }
+    ensures { relay_of result [] [] ≡ start_relay mask s }
 {
     let known = mask as u16;
     let joined = (mask >> s) % 2 == 1;
@@ -41,7 +41,7 @@ pub(crate) fn put_relays(w: &mut [u8], mask: u8)
 }
 
 fn start_desk(mask: u8) -> Desk
-    ensures { result ≡ startDesk mask }
+    ensures { result ≡ start_desk mask }
 {
     Desk {
         alive: true,

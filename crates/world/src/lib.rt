@@ -2,19 +2,19 @@
 // so a refused step changes no byte.
 ghost use Rattle.std.specs.Prelude.{◌≡◌, true, false, List, ℕ, ◌≤◌, ◌<◌};
 ghost use Rattle.rules.specs.Messages as rules;
-ghost use Rattle.rules.specs.State.{Relay, noRelay, noDesk, waiting, placeAt};
+ghost use Rattle.rules.specs.State.{Relay, no_relay, no_desk, waiting, place_at};
 ghost use Rattle.rules.specs.declared.Desk as code;
 ghost use Rattle.rules.specs.Steps as steps;
-ghost use Rattle.layout.specs.Image.{worldAt, goodBytes};
+ghost use Rattle.layout.specs.Image.{world_at, good_bytes};
 ghost use Rattle.layout.specs.Lent as lent;
-ghost use Rattle.state.specs.Meaning.{part_of, body_of, messageOf, eventOf};
-ghost use Rattle.state.specs.Plans.{plan_of, deskPlanOf, planned};
-ghost use Rattle.relay.specs.Fitting.{showsView};
+ghost use Rattle.state.specs.Meaning.{part_of, body_of, message_of, event_of};
+ghost use Rattle.state.specs.Plans.{plan_of, desk_plan_of, planned};
+ghost use Rattle.relay.specs.Fitting.{shows_view};
 ghost use Rattle.world.specs.Answer.{lent_of, accepted};
-ghost use Rattle.locality.specs.Narrow.{generatorOfBody, move, moveOfBody};
-ghost use Rattle.locality.specs.Asked.{Few, relayAsked, deskAsked};
-ghost use Rattle.world.specs.Commits.{freeRow, delivered, relayLeft, deskLeft, relayActs, deskActs, placeAct, actorOf};
-ghost use Rattle.world.specs.Tracing.{waitingRows};
+ghost use Rattle.locality.specs.Narrow.{generator_of_body, move, move_of_body};
+ghost use Rattle.locality.specs.Asked.{Few, relay_asked, desk_asked};
+ghost use Rattle.world.specs.Commits.{free_row, delivered, relay_left, desk_left, relay_acts, desk_acts, place_act, actor_of};
+ghost use Rattle.world.specs.Tracing.{waiting_rows};
 
 use layout::{DESK_WIDTH, WORLD_DESKS};
 use rules::{Desk, Step};
@@ -56,7 +56,7 @@ fn refuses(number: u8) -> Answer
 
 // Done: the event, and the relay or the desk that it is about.
 fn tells(event: Event, who: u8) -> Answer
-    ensures { (b : List ℕ) → lent_of result b ≡ accepted (steps.reports (eventOf event) who) b }
+    ensures { (b : List ℕ) → lent_of result b ≡ accepted (steps.reports (event_of event) who) b }
 {
     let report = match event {
         Event::Nothing => Report::Nothing,
@@ -83,9 +83,9 @@ fn tells(event: Event, who: u8) -> Answer
 
 // What the relay s answers is refused, or done; p is the delivered place, 256 where there is none.
 fn relay_commits(w: &mut [u8], s: u8, p: usize, plan: Plan) -> Answer
-    requires { (goodBytes w.old ≡ true) × (s < 8) }
-    ensures { (n : ℕ) (a : rules.Answer Relay) → plan_of plan ≡ planned noRelay a → Few a → delivered (worldAt w.old) p ≡ true
-        → lent_of result w.new ≡ relayLeft w.old n p s a }
+    requires { (good_bytes w.old ≡ true) × (s < 8) }
+    ensures { (n : ℕ) (a : rules.Answer Relay) → plan_of plan ≡ planned no_relay a → Few a → delivered (world_at w.old) p ≡ true
+        → lent_of result w.new ≡ relay_left w.old n p s a }
 {
     let answer = plan.answer;
     let part = plan.part;
@@ -108,9 +108,9 @@ fn relay_commits(w: &mut [u8], s: u8, p: usize, plan: Plan) -> Answer
 
 // The same of the desk n.
 fn desk_commits(w: &mut [u8], n: u8, p: usize, plan: DeskPlan) -> Answer
-    requires { (goodBytes w.old ≡ true) × (n < 4) }
-    ensures { (k : ℕ) (a : rules.Answer code.Desk) → deskPlanOf plan ≡ planned noDesk a → Few a → delivered (worldAt w.old) p ≡ true
-        → lent_of result w.new ≡ deskLeft w.old k p n a }
+    requires { (good_bytes w.old ≡ true) × (n < 4) }
+    ensures { (k : ℕ) (a : rules.Answer code.Desk) → desk_plan_of plan ≡ planned no_desk a → Few a → delivered (world_at w.old) p ≡ true
+        → lent_of result w.new ≡ desk_left w.old k p n a }
 {
     let answer = plan.answer;
     let desk = plan.desk;
@@ -132,8 +132,8 @@ fn desk_commits(w: &mut [u8], n: u8, p: usize, plan: DeskPlan) -> Answer
 
 // What the kind asks of the relay s; the part shows the generator of its own view.
 fn relay_asked(kind: u8, s: u8, part: Part) -> Plan
-    requires { (s < 8) × (showsView (part_of part).view (part_of part) ≡ true) }
-    ensures { plan_of result ≡ planned noRelay (relayAsked kind s (part_of part)) }
+    requires { (s < 8) × (shows_view (part_of part).view (part_of part) ≡ true) }
+    ensures { plan_of result ≡ planned no_relay (relay_asked kind s (part_of part)) }
 {
     if kind == rules::JOIN {
         return relay::join_asked(s, part);
@@ -146,8 +146,8 @@ fn relay_asked(kind: u8, s: u8, part: Part) -> Plan
 
 // "1 JOIN relay, 2 LEAVE relay, 3 TIMER relay"
 fn relay_acts(w: &mut [u8], kind: u8, s: u8) -> Answer
-    requires { (goodBytes w.old ≡ true) × (s < 8) }
-    ensures { lent_of result w.new ≡ lent.left w.old (relayActs (worldAt w.old) kind s) }
+    requires { (good_bytes w.old ≡ true) × (s < 8) }
+    ensures { lent_of result w.new ≡ lent.left w.old (relay_acts (world_at w.old) kind s) }
 {
     let view = rows::read_u16(w, s as usize * layout::RELAY_WIDTH + layout::HEAD_VIEW);
     let part = reads::part_at(w, s, view, 0, 0);
@@ -158,7 +158,7 @@ fn relay_acts(w: &mut [u8], kind: u8, s: u8) -> Answer
 // ---- steps of a desk
 
 fn desk_asked(kind: u8, x: u32, desk: Desk) -> DeskPlan
-    ensures { deskPlanOf result ≡ planned noDesk (deskAsked kind x desk) }
+    ensures { desk_plan_of result ≡ planned no_desk (desk_asked kind x desk) }
 {
     if kind == rules::WRITE {
         return desk::write_asked(desk, x);
@@ -168,8 +168,8 @@ fn desk_asked(kind: u8, x: u32, desk: Desk) -> DeskPlan
 
 // "4 READ desk, 5 WRITE desk value"
 fn desk_acts(w: &mut [u8], kind: u8, n: u8, x: u32) -> Answer
-    requires { (goodBytes w.old ≡ true) × (n < 4) }
-    ensures { lent_of result w.new ≡ lent.left w.old (deskActs (worldAt w.old) kind n x) }
+    requires { (good_bytes w.old ≡ true) × (n < 4) }
+    ensures { lent_of result w.new ≡ lent.left w.old (desk_acts (world_at w.old) kind n x) }
 {
     let desk = image::desk_at(w, WORLD_DESKS + n as usize * DESK_WIDTH);
     let plan = desk_asked(kind, x, desk);
@@ -187,7 +187,7 @@ struct About {
 }
 
 fn about_of(b: Body) -> About
-    ensures { (result.generator ≡ generatorOfBody (body_of b)) × (move result.old result.new ≡ moveOfBody (body_of b)) }
+    ensures { (result.generator ≡ generator_of_body (body_of b)) × (move result.old result.new ≡ move_of_body (body_of b)) }
 {
     let kind = b.kind;
     if (kind == layout::INSTALL) | (kind == layout::STATE) {
@@ -212,8 +212,8 @@ fn about_of(b: Body) -> About
 }
 
 fn to_relay(w: &mut [u8], p: usize, m: Message) -> Answer
-    requires { (goodBytes w.old ≡ true) × ((p < 256) × ((placeAt (worldAt w.old) p ≡ waiting (messageOf m)) × (m.to < 8))) }
-    ensures { lent_of result w.new ≡ lent.left w.old (steps.delivers (steps.freed (worldAt w.old) p) (messageOf m)) }
+    requires { (good_bytes w.old ≡ true) × ((p < 256) × ((place_at (world_at w.old) p ≡ waiting (message_of m)) × (m.to < 8))) }
+    ensures { lent_of result w.new ≡ lent.left w.old (steps.delivers (steps.freed (world_at w.old) p) (message_of m)) }
 {
     let to = m.to;
     let from = m.from;
@@ -225,8 +225,8 @@ fn to_relay(w: &mut [u8], p: usize, m: Message) -> Answer
 }
 
 fn to_desk(w: &mut [u8], p: usize, m: Message) -> Answer
-    requires { (goodBytes w.old ≡ true) × ((p < 256) × ((placeAt (worldAt w.old) p ≡ waiting (messageOf m)) × ((8 ≤ m.to) × (m.to < 12)))) }
-    ensures { lent_of result w.new ≡ lent.left w.old (steps.delivers (steps.freed (worldAt w.old) p) (messageOf m)) }
+    requires { (good_bytes w.old ≡ true) × ((p < 256) × ((place_at (world_at w.old) p ≡ waiting (message_of m)) × ((8 ≤ m.to) × (m.to < 12)))) }
+    ensures { lent_of result w.new ≡ lent.left w.old (steps.delivers (steps.freed (world_at w.old) p) (message_of m)) }
 {
     let n = m.to - 8;
     let from = m.from;
@@ -237,8 +237,8 @@ fn to_desk(w: &mut [u8], p: usize, m: Message) -> Answer
 }
 
 fn deliver(w: &mut [u8], p: usize) -> Answer
-    requires { (goodBytes w.old ≡ true) × ((p < 256) × (freeRow w.old p ≡ false)) }
-    ensures { lent_of result w.new ≡ lent.left w.old (steps.acts (worldAt w.old) (steps.deliver p)) }
+    requires { (good_bytes w.old ≡ true) × ((p < 256) × (free_row w.old p ≡ false)) }
+    ensures { lent_of result w.new ≡ lent.left w.old (steps.acts (world_at w.old) (steps.deliver p)) }
 {
     let m = image::message_at(w, layout::WORLD_PLACES + p * layout::MESSAGE_WIDTH);
     if !reads::alive_at(w, m.to) {
@@ -252,8 +252,8 @@ fn deliver(w: &mut [u8], p: usize) -> Answer
 
 // "6 DELIVER place, 7 DROP place"; "DROP only frees"
 fn place_acts(w: &mut [u8], kind: u8, id: u8) -> Answer
-    requires { goodBytes w.old ≡ true }
-    ensures { lent_of result w.new ≡ lent.left w.old (steps.acts (worldAt w.old) (placeAct kind id)) }
+    requires { good_bytes w.old ≡ true }
+    ensures { lent_of result w.new ≡ lent.left w.old (steps.acts (world_at w.old) (place_act kind id)) }
 {
     let p = id as usize;
     if reads::is_free(w, p) {
@@ -268,8 +268,8 @@ fn place_acts(w: &mut [u8], kind: u8, id: u8) -> Answer
 
 // "CRASH only ends alive"
 fn crash(w: &mut [u8], who: u8) -> Answer
-    requires { (goodBytes w.old ≡ true) × (who < 12) }
-    ensures { lent_of result w.new ≡ lent.left w.old (steps.crashing (worldAt w.old) who) }
+    requires { (good_bytes w.old ≡ true) × (who < 12) }
+    ensures { lent_of result w.new ≡ lent.left w.old (steps.crashing (world_at w.old) who) }
 {
     rows::put_byte(w, reads::row_of(who), 0);
     tells(Event::Nothing, 0)
@@ -279,7 +279,7 @@ fn crash(w: &mut [u8], who: u8) -> Answer
 
 // Who acts in a step of JOIN, LEAVE, TIMER, READ, WRITE or CRASH; 12 for an id out of range, and for no such kind.
 fn actor(kind: u8, id: u8) -> u8
-    ensures { result ≡ actorOf kind id }
+    ensures { result ≡ actor_of kind id }
 {
     if (rules::JOIN <= kind) & (kind <= rules::TIMER) & (id < 8) {
         return id;
@@ -295,8 +295,8 @@ fn actor(kind: u8, id: u8) -> u8
 
 // A step of a good world.
 fn step_good(w: &mut [u8], k: Step) -> Answer
-    requires { goodBytes w.old ≡ true }
-    ensures { lent_of result w.new ≡ lent.lentStep w.old k }
+    requires { good_bytes w.old ≡ true }
+    ensures { lent_of result w.new ≡ lent.lent_step w.old k }
 {
     let kind = k.kind;
     if (kind != rules::WRITE) & (k.value != 0) {
@@ -323,7 +323,7 @@ fn step_good(w: &mut [u8], k: Step) -> Answer
 
 // Any step on any buffer. BAD WORLD: "world not good".
 pub fn step(w: &mut [u8], k: Step) -> Answer
-    ensures { lent_of result w.new ≡ lent.lentStep w.old k }
+    ensures { lent_of result w.new ≡ lent.lent_step w.old k }
 {
     if !good::is_good(w) {
         return refuses(rules::BAD_WORLD);
@@ -335,7 +335,7 @@ pub fn step(w: &mut [u8], k: Step) -> Answer
 
 // "Start: a mask 1..255 of relays."
 pub fn start(w: &mut [u8], mask: u8) -> Answer
-    ensures { lent_of result w.new ≡ lent.lentStart w.old mask }
+    ensures { lent_of result w.new ≡ lent.lent_start w.old mask }
 {
     if w.len() != layout::WORLD_WIDTH {
         return refuses(rules::BAD_WORLD);
@@ -353,7 +353,7 @@ pub fn start(w: &mut [u8], mask: u8) -> Answer
 
 // How many places hold a message, of whatever bytes.
 pub fn waiting(w: &[u8]) -> u32
-    ensures { result ≡ waitingRows w.now }
+    ensures { result ≡ waiting_rows w.now }
 {
     (rules::PLACES - reads::free_places(w)) as u32
 }

@@ -1,12 +1,12 @@
 // A whole run of a sheet: a row of its trace for each step, and the last world. Document 01, "Sheets and the printed record".
 ghost use Rattle.std.specs.Prelude.{◌≡◌, true, false, [], ◌∷◌, ◌*◌, ◌≤◌, length, get_or};
 ghost use Rattle.rows.specs.Bytes.{placed};
-ghost use Rattle.rules.specs.Sheets.{badSheet};
-ghost use Rattle.rules.specs.Runs.{fields, outcomes, lastWorld};
-ghost use Rattle.layout.specs.Image.{image, worldAt, goodBytes};
-ghost use Rattle.sheet.specs.Reading.{stepsFrom};
-ghost use Rattle.world.specs.Answer.{reportOf, columns};
-ghost use Rattle.world.specs.Tracing.{columnsOf, traceRowWidth, columnsBytes, traceRows, Stepped, traceAnswer, traceWorld, traceLeft};
+ghost use Rattle.rules.specs.Sheets.{bad_sheet};
+ghost use Rattle.rules.specs.Runs.{fields, outcomes, last_world};
+ghost use Rattle.layout.specs.Image.{image, world_at, good_bytes};
+ghost use Rattle.sheet.specs.Reading.{steps_from};
+ghost use Rattle.world.specs.Answer.{report_of, columns};
+ghost use Rattle.world.specs.Tracing.{columns_of, trace_row_width, columns_bytes, trace_rows, Stepped, trace_answer, trace_world, trace_left};
 
 use super::{Answer, Report};
 use rules::Step;
@@ -26,7 +26,7 @@ pub struct Columns {
 }
 
 fn ended(event: u8, who: u8, pair: Pair) -> Columns
-    ensures { columnsOf result ≡ event ∷ who ∷ pair.stamp.count ∷ pair.stamp.desk ∷ pair.value ∷ [] }
+    ensures { columns_of result ≡ event ∷ who ∷ pair.stamp.count ∷ pair.stamp.desk ∷ pair.value ∷ [] }
 {
     Columns {
         event: event,
@@ -38,7 +38,7 @@ fn ended(event: u8, who: u8, pair: Pair) -> Columns
 }
 
 pub fn columns_of(a: Answer) -> Columns
-    ensures { columnsOf result ≡ fields (reportOf a.report).event (reportOf a.report).who }
+    ensures { columns_of result ≡ fields (report_of a.report).event (report_of a.report).who }
 {
     let report = a.report;
     match report {
@@ -78,7 +78,7 @@ pub const TRACE_LAST: usize = TRACE_DESK + layout::BYTE_WIDTH;
 pub const TRACE_ROW: usize = TRACE_LAST + layout::U32_WIDTH;
 
 fn put_row(rows: &mut [u8], at: usize, a: Answer)
-    ensures { rows.new ≡ placed rows.old at (columnsBytes (columns a)) }
+    ensures { rows.new ≡ placed rows.old at (columns_bytes (columns a)) }
 {
     let answer = a.number;
     let c = columns_of(a);
@@ -98,8 +98,8 @@ fn put_row(rows: &mut [u8], at: usize, a: Answer)
 
 // One step of a good world, and its row.
 fn turn(w: &mut [u8], rows: &mut [u8], at: usize, k: Step)
-    requires { goodBytes w.old ≡ true }
-    ensures { Stepped (worldAt w.old) k at rows.old w.new rows.new }
+    requires { good_bytes w.old ≡ true }
+    ensures { Stepped (world_at w.old) k at rows.old w.new rows.new }
 {
     let a = super::step_good(w, k);
     put_row(rows, at, a);
@@ -107,11 +107,11 @@ fn turn(w: &mut [u8], rows: &mut [u8], at: usize, k: Step)
 
 // "It is read from the front one step at a time"
 fn turns(sheet: &[u8], w: &mut [u8], rows: &mut [u8])
-    requires w_value { (goodBytes w.old ≡ true) × (badSheet sheet.now ≡ false) }
-    requires trace_row_width_in_bounds { length (stepsFrom sheet.now 6) * traceRowWidth ≤ length rows.old }
-    ensures world { w.new ≡ image (lastWorld (worldAt w.old) (stepsFrom sheet.now 6)) }
+    requires w_value { (good_bytes w.old ≡ true) × (bad_sheet sheet.now ≡ false) }
+    requires trace_row_width_in_bounds { length (steps_from sheet.now 6) * trace_row_width ≤ length rows.old }
+    ensures world { w.new ≡ image (last_world (world_at w.old) (steps_from sheet.now 6)) }
     ensures rows { rows.new
-        ≡ placed rows.old 0 (traceRows (outcomes (worldAt w.old) (stepsFrom sheet.now 6))) }
+        ≡ placed rows.old 0 (trace_rows (outcomes (world_at w.old) (steps_from sheet.now 6))) }
 {
     let mut from = sheet::HEAD;
     let mut at = 0;
@@ -139,9 +139,9 @@ pub struct Traced {
 // The trace of a sheet's run from the start of its mask, laid from the front of `rows`, and the last world. Whether there is room is decided before anything is
 // done.
 pub fn trace(sheet: &[u8], world: &mut [u8], rows: &mut [u8]) -> Traced
-    ensures answer { result ≡ traceAnswer sheet.now world.old rows.old }
-    ensures last { world.new ≡ traceWorld sheet.now world.old rows.old }
-    ensures rows { rows.new ≡ traceLeft sheet.now world.old rows.old }
+    ensures answer { result ≡ trace_answer sheet.now world.old rows.old }
+    ensures last { world.new ≡ trace_world sheet.now world.old rows.old }
+    ensures rows { rows.new ≡ trace_left sheet.now world.old rows.old }
 {
     if world.len() != layout::WORLD_WIDTH {
         return Traced {

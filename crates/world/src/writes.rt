@@ -2,14 +2,14 @@
 ghost use Rattle.std.specs.Prelude.{◌≡◌, true, map, ℕ, ◌+◌, ◌≤◌, ◌<◌, leb, length, get_or};
 ghost use Rattle.rows.specs.Bytes.{placed, table};
 ghost use Rattle.rules.specs.Messages.{copies, outgoing};
-ghost use Rattle.rules.specs.State.{World, withPlaces, relayAt, withRelay, withTransfers};
+ghost use Rattle.rules.specs.State.{World, with_places, relay_at, with_relay, with_transfers};
 ghost use Rattle.rules.specs.Sending as rules;
-ghost use Rattle.rules.specs.Relays.{freshTransfer};
-ghost use Rattle.layout.specs.Layout.{transfersWidth};
-ghost use Rattle.layout.specs.Image.{transferBytes, image, worldAt, goodBytes};
-ghost use Rattle.state.specs.Meaning.{transferOf, part_of, body_of, sendingOf, sendingsOf};
+ghost use Rattle.rules.specs.Relays.{fresh_transfer};
+ghost use Rattle.layout.specs.Layout.{transfers_width};
+ghost use Rattle.layout.specs.Image.{transfer_bytes, image, world_at, good_bytes};
+ghost use Rattle.state.specs.Meaning.{transfer_of, part_of, body_of, sending_of, sendings_of};
 ghost use Rattle.locality.specs.Narrow.{widened};
-ghost use Rattle.world.specs.Commits.{TakenTo, freedAt, keptRows, message};
+ghost use Rattle.world.specs.Commits.{TakenTo, freed_at, kept_rows, message};
 
 use state::{Body, MOST, Message, Part, Sending, Sendings, Transfer};
 
@@ -17,7 +17,7 @@ use state::{Body, MOST, Message, Part, Sending, Sendings, Transfer};
 
 // "DELIVER frees its place first"; 256 is none.
 pub(crate) fn free(w: &mut [u8], p: usize)
-    ensures { (W : World) → length W.places ≡ 256 → w.old ≡ image W → w.new ≡ image (freedAt W p) }
+    ensures { (W : World) → length W.places ≡ 256 → w.old ≡ image W → w.new ≡ image (freed_at W p) }
 {
     if 256 <= p {
         return;
@@ -34,7 +34,7 @@ fn place(w: &mut [u8], low: usize, from: u8, to: u8, body: Body) -> usize
     requires { TakenTo w.old low }
     ensures next { TakenTo w.new result }
     ensures bytes { (W : World) → length W.places ≡ 256 → w.old ≡ image W
-        → w.new ≡ image (withPlaces W (rules.place (message from (body_of body) to) W.places)) }
+        → w.new ≡ image (with_places W (rules.place (message from (body_of body) to) W.places)) }
 {
     let p = super::reads::first_free(w, low);
     if 256 <= p {
@@ -53,7 +53,7 @@ fn place(w: &mut [u8], low: usize, from: u8, to: u8, body: Body) -> usize
 // "each to its receivers in ascending order"; each search goes on where the last one ended.
 fn send(w: &mut [u8], from: u8, x: Sending)
     ensures { (W : World) → length W.places ≡ 256 → w.old ≡ image W
-        → w.new ≡ image (withPlaces W (rules.placeAll (copies from (sendingOf x)) W.places)) }
+        → w.new ≡ image (with_places W (rules.place_all (copies from (sending_of x)) W.places)) }
 {
     let m = x.receivers;
     if m == 0 {
@@ -71,7 +71,7 @@ fn send(w: &mut [u8], from: u8, x: Sending)
 // One sending after the other, in the order of the rule.
 pub(crate) fn send_all(w: &mut [u8], from: u8, x: Sendings)
     ensures { (W : World) → length W.places ≡ 256 → w.old ≡ image W
-        → w.new ≡ image (withPlaces W (rules.placeAll (outgoing from (sendingsOf x)) W.places)) }
+        → w.new ≡ image (with_places W (rules.place_all (outgoing from (sendings_of x)) W.places)) }
 {
     for i in 0..MOST {
         let s = x.of[i];
@@ -88,7 +88,7 @@ struct Kept {
 }
 
 fn blank() -> Transfer
-    ensures { transferOf result ≡ freshTransfer 0 0 }
+    ensures { transfer_of result ≡ fresh_transfer 0 0 }
 {
     Transfer {
         old: 0,
@@ -103,7 +103,7 @@ fn blank() -> Transfer
 // "transfers whose new view does not strictly include w are freed, and the rest move down in their order"
 fn kept_transfers(w: &[u8], at: usize, v: u16) -> Kept
     requires { at < 65536 }
-    ensures { (k : ℕ) → k < 8 → get_or (map transferOf result.of) k (freshTransfer 0 0) ≡ get_or (keptRows w.now at v 8) k (freshTransfer 0 0) }
+    ensures { (k : ℕ) → k < 8 → get_or (map transfer_of result.of) k (fresh_transfer 0 0) ≡ get_or (kept_rows w.now at v 8) k (fresh_transfer 0 0) }
 {
     let mut of = [blank(); 8];
     let mut n = 0;
@@ -118,8 +118,8 @@ fn kept_transfers(w: &[u8], at: usize, v: u16) -> Kept
 }
 
 fn put_kept(w: &mut [u8], at: usize, kept: Kept)
-    requires { at + transfersWidth ≤ length w.old }
-    ensures { w.new ≡ placed w.old at (table transferBytes (freshTransfer 0 0) 8 (map transferOf kept.of)) }
+    requires { at + transfers_width ≤ length w.old }
+    ensures { w.new ≡ placed w.old at (table transfer_bytes (fresh_transfer 0 0) 8 (map transfer_of kept.of)) }
 {
     let of = kept.of;
     for i in 0..8usize {
@@ -130,9 +130,9 @@ fn put_kept(w: &mut [u8], at: usize, kept: Kept)
 
 // Only where `has_seats` is true, so that the seat is one of the eight; `put_part` likewise.
 fn put_transfers(w: &mut [u8], s: u8, part: Part)
-    requires { (goodBytes w.old ≡ true) × (s < 8) }
-    ensures { leb (length (widened (relayAt (worldAt w.old) s) (part_of part)).transfers) 8 ≡ true
-        → w.new ≡ image (withRelay (worldAt w.old) s (withTransfers (relayAt (worldAt w.old) s) (widened (relayAt (worldAt w.old) s) (part_of part)).transfers)) }
+    requires { (good_bytes w.old ≡ true) × (s < 8) }
+    ensures { leb (length (widened (relay_at (world_at w.old) s) (part_of part)).transfers) 8 ≡ true
+        → w.new ≡ image (with_relay (world_at w.old) s (with_transfers (relay_at (world_at w.old) s) (widened (relay_at (world_at w.old) s) (part_of part)).transfers)) }
 {
     let at = s as usize * layout::RELAY_WIDTH;
     let view = part.head.view;
@@ -157,10 +157,10 @@ fn put_transfers(w: &mut [u8], s: u8, part: Part)
 
 // The relay s, of whose part a rule has made this one.
 pub(crate) fn put_part(w: &mut [u8], s: u8, part: Part)
-    requires { (goodBytes w.old ≡ true) × (s < 8) }
-    ensures { leb (length (widened (relayAt (worldAt w.old) s) (part_of part)).generators) 8 ≡ true
-        → leb (length (widened (relayAt (worldAt w.old) s) (part_of part)).transfers) 8 ≡ true
-        → w.new ≡ image (withRelay (worldAt w.old) s (widened (relayAt (worldAt w.old) s) (part_of part))) }
+    requires { (good_bytes w.old ≡ true) × (s < 8) }
+    ensures { leb (length (widened (relay_at (world_at w.old) s) (part_of part)).generators) 8 ≡ true
+        → leb (length (widened (relay_at (world_at w.old) s) (part_of part)).transfers) 8 ≡ true
+        → w.new ≡ image (with_relay (world_at w.old) s (widened (relay_at (world_at w.old) s) (part_of part))) }
 {
     let at = s as usize * layout::RELAY_WIDTH;
     let head = part.head;

@@ -7,37 +7,37 @@ use borrow.Author.Rules.{rules}
 use Rattle.rules.specs.declared.Desk.{Desk}
 use Rattle.rules.specs.declared.Phase.{Phase}
 use Rattle.rules.specs.declared.Phase.TheVariants.{Read1, Read2}
-use Rattle.rules.specs.Messages.{does, readDone}
+use Rattle.rules.specs.Messages.{does, read_done}
 use Rattle.rules.specs.Sets.{if◌then◌else◌}
-use Rattle.rules.specs.State.{noDesk}
+use Rattle.rules.specs.State.{no_desk}
 use Rattle.rules.specs.Desks.{ended, begins, completes}
-use Rattle.state.specs.Meaning.{eventOf}
+use Rattle.state.specs.Meaning.{event_of}
 use Rattle.state.specs.Plans.{Planned, planned}
 use Rattle.desk.proofs.completes.Statement.{statement}
 use Rattle.desk.proofs.completes.Tie as tie
 
 module _ (n : ℕ) (d : Desk) {x : Planned Desk} where
-  in-phase : (ph : Phase) → d.phase ≡ ph → x ≡ planned noDesk (completes n d ph) → x ≡ planned noDesk (completes n d d.phase)
-  in-phase ph e h = h ∙ ap (λ p. planned noDesk (completes n d p)) (sym e)
+  in_phase : (ph : Phase) → d.phase ≡ ph → x ≡ planned no_desk (completes n d ph) → x ≡ planned no_desk (completes n d d.phase)
+  in_phase ph e h = h ∙ ap (λ p. planned no_desk (completes n d p)) (sym e)
 
   in-read-1 :
       (b : Bool) → d.phase ≡ Read1 → d.agreed ≡ b
-      → x ≡ planned noDesk (if b then does (ended d) [] (readDone d.best) else begins d Read2 d.view d.best)
-      → x ≡ planned noDesk (completes n d d.phase)
+      → x ≡ planned no_desk (if b then does (ended d) [] (read_done d.best) else begins d Read2 d.view d.best)
+      → x ≡ planned no_desk (completes n d d.phase)
   unfolding completes
   in-read-1 b e f h =
-      in-phase Read1 e
-      (h ∙ ap (λ t. planned noDesk (if t then does (ended d) [] (readDone d.best) else begins d Read2 d.view d.best)) (sym f))
+      in_phase Read1 e
+      (h ∙ ap (λ t. planned no_desk (if t then does (ended d) [] (read_done d.best) else begins d Read2 d.view d.best)) (sym f))
 
 returns : tie.Need-returns
-unfolding eventOf
+unfolding event_of
 returns c =
     let a = c.before.before.before.before.before.before.args in
     in-read-1 a.n a.d true c.before.before.enum-told2.given.1 c.before.if1.true c.ends.ensures
 
 returns-2 : tie.Need-returns-2
 unfolding completes
-returns-2 c = in-phase _ _ _ c.before.enum_told.given.1 c.does-nothing.ensures
+returns-2 c = in_phase _ _ _ c.before.enum_told.given.1 c.does-nothing.ensures
 
 returns-3 : tie.Need-returns-3
 returns-3 c =
@@ -45,19 +45,19 @@ returns-3 c =
     in-read-1 a.n a.d false c.before.before.enum-told2.given.1 c.before.if1.false c.begins.ensures
 
 returns-4 : tie.Need-returns-4
-unfolding completes eventOf
-returns-4 c = in-phase _ _ _ c.before.enum-told3.given.1 c.ends2.ensures
+unfolding completes event_of
+returns-4 c = in_phase _ _ _ c.before.enum-told3.given.1 c.ends2.ensures
 
 returns-5 : tie.Need-returns-5
 unfolding completes
-returns-5 c = in-phase _ _ _ c.before.enum-told4.given.1 c.takes-stamp.ensures
+returns-5 c = in_phase _ _ _ c.before.enum-told4.given.1 c.takes-stamp.ensures
 
 returns-6 : tie.Need-returns-6
-unfolding completes eventOf
-returns-6 c = in-phase _ _ _ c.before.enum-told5.given.1 c.ends3.ensures
+unfolding completes event_of
+returns-6 c = in_phase _ _ _ c.before.enum-told5.given.1 c.ends3.ensures
 
-pub completes-spec : {M : Type 1} → statement M
-completes-spec =
+pub completes_spec : {M : Type 1} → statement M
+completes_spec =
     tie.close
     (tie.spec
     (λ c. search rules)

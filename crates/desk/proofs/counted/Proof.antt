@@ -6,7 +6,7 @@ use borrow.Author.Tests.{not-true, not-false}
 use Rattle.rules.specs.declared.Desk.{Desk}
 use Rattle.rules.specs.Messages.{quietly}
 use Rattle.rules.specs.Sets.{if◌then◌else◌, reaches}
-use Rattle.rules.specs.State.{noDesk}
+use Rattle.rules.specs.State.{no_desk}
 use Rattle.rules.specs.Desks.{completes, counted}
 use Rattle.state.specs.Plans.{Planned, planned}
 use Rattle.desk.proofs.counted.Statement.{statement}
@@ -14,9 +14,9 @@ use Rattle.desk.proofs.counted.Tie as tie
 
 module _ (n : ℕ) (d : Desk) {x : Planned Desk} where
   by-quorum :
-      (b : Bool) → x ≡ planned noDesk (if b then completes n d d.phase else quietly d)
+      (b : Bool) → x ≡ planned no_desk (if b then completes n d d.phase else quietly d)
       → reaches d.view d.replied ≡ b
-      → x ≡ planned noDesk (counted n d)
+      → x ≡ planned no_desk (counted n d)
   unfolding counted
   by-quorum b h e = rw e h
 

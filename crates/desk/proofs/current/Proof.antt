@@ -13,5 +13,5 @@ returns-3 c =
     rw (sym c.before.before.before.before.is-idle.ensures ∙ c.before.before.before.if1.false, eq-eqb _ _ c.before.if2.false)
     c.is_member.ensures
 
-pub current-spec : {M : Type 1} → statement M
-current-spec = tie.close (tie.spec (λ c κs. tt) (λ c. search rules) returns-2 (λ c κs. tt) returns-3)
+pub current_spec : {M : Type 1} → statement M
+current_spec = tie.close (tie.spec (λ c κs. tt) (λ c. search rules) returns-2 (λ c κs. tt) returns-3)

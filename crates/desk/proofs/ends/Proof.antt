@@ -5,5 +5,5 @@ use Rattle.desk.proofs.ends.Tie as tie
 returns : tie.Need-returns
 returns c = rw c.before.ended.ensures at c.tells.ensures
 
-pub ends-spec : {M : Type 1} → statement M
-ends-spec = tie.close (tie.spec (λ c κs. tt) (λ c κs. tt) returns)
+pub ends_spec : {M : Type 1} → statement M
+ends_spec = tie.close (tie.spec (λ c κs. tt) (λ c κs. tt) returns)

@@ -44,7 +44,7 @@ use Rattle.stamps.proofs.Pair.TheLaws as S'
 use Rattle.rules.specs.declared.Desk.{Desk}
 use Rattle.rules.specs.contracts.Desk as T
 use Rattle.rules.proofs.Desk.TheLaws as T'
-use Rattle.desk.specs.Replies.{replyNoted}
+use Rattle.desk.specs.Replies.{reply_noted}
 use Rattle.desk.specs.contracts.notes_pair as noted
 use Rattle.desk.proofs.notes_pair.Symbol as noted-def
 use Rattle.desk.proofs.notes_pair.Symbol.{name as #desk·notes-pair}
@@ -55,8 +55,8 @@ use Rattle.desk.proofs.note_reply.Statement as stated
 use Rattle.desk.proofs.note_reply.Code as code
 
 -- a desk as the machine has it
-abbrev desk-val : Desk → Val
-desk-val d = LL.val T.the_type T'.the_laws d
+abbrev desk_val : Desk → Val
+desk_val d = LL.val T.the_type T'.the_laws d
 
 abbrev stayed : Stays (f.ended).signature.params (f.ended).kept
 stayed = (stay_ref (0 ∷ []) tt (plain (λ _. T.the_row)), (stay_none (λ _. u8) yes, (stay_none (λ _. S.the_row) yes, tt)))
@@ -81,17 +81,17 @@ module _ {M : Type 1} {𝓤 : Ura M} (𝓛 : Logic 𝓤) (at_mem : Memory → SP
 
   -- the call of `notes_pair`: what it is passed, what it asks, and what is known of its result
   abbrev to : (Noted 𝓛 at_mem run).Ghost
-  to = ((tt, tt, tt, (h, (n, (s, tt))), (desk-val h ∷ [], (vint w8 n ∷ [], (S'.lowered s ∷ [], tt)))), tt)
+  to = ((tt, tt, tt, (h, (n, (s, tt))), (desk_val h ∷ [], (vint w8 n ∷ [], (S'.lowered s ∷ [], tt)))), tt)
 
-  asked : Is T.the_row h (desk-val h ∷ []) → ent 𝓤 (emp 𝓤) ((Noted 𝓛 at_mem run).pre to)
+  asked : Is T.the_row h (desk_val h ∷ []) → ent 𝓤 (emp 𝓤) ((Noted 𝓛 at_mem run).pre to)
   asked is-h =
       qed 𝓛 (‵ ftrue ∷ []) ∵ owned ! S.the_row (Is S.the_row) (LL.makes S.the_type S'.the_plain 𝓛) s _ is-s $ fjoin ! $
       owned ! u8 (Is u8) (uint_Makes 𝓛 w8) n _ (refl, is-n) $ fjoin ! $ owned ! T.the_row (Is T.the_row) (LL.makes T.the_type T'.the_plain 𝓛) h _ is-h $ fjoin ! $ nothing ! $ join ! $ frame ! $ done !
 
-  said : (r : Desk) → ent 𝓤 (ensured 𝓛 noted.ended (noted.clauses 𝓛 at_mem run) tt (h, (n, (s, tt))) tt r) (fact 𝓤 (r ≡ replyNoted h n s))
-  said r = ex_e 𝓤 _ (λ ws. snd∗ 𝓤 (sem 𝓛 (lasts noted.ended tt (h, (n, (s, tt))) ws)) (fact 𝓤 (r ≡ replyNoted h n s)))
+  said : (r : Desk) → ent 𝓤 (ensured 𝓛 noted.ended (noted.clauses 𝓛 at_mem run) tt (h, (n, (s, tt))) tt r) (fact 𝓤 (r ≡ reply_noted h n s))
+  said r = ex_e 𝓤 _ (λ ws. snd∗ 𝓤 (sem 𝓛 (lasts noted.ended tt (h, (n, (s, tt))) ws)) (fact 𝓤 (r ≡ reply_noted h n s)))
 
-  exits : (r : Desk) → r ≡ replyNoted h n s → ent 𝓤 (sep 𝓤 (A.obs γ ((T.the_row).coded.code r)) (sep 𝓤 (A.bor κ (Body (mem T.the_row) b o γ)) (A.lft κ q))) (Post vunit)
+  exits : (r : Desk) → r ≡ reply_noted h n s → ent 𝓤 (sep 𝓤 (A.obs γ ((T.the_row).coded.code r)) (sep 𝓤 (A.bor κ (Body (mem T.the_row) b o γ)) (A.lft κ q))) (Post vunit)
   exits r e =
       qed 𝓛 (‵ (fobs γ ((T.the_row).coded.code r)) ∷ ‵ (fbor κ (Body (mem T.the_row) b o γ)) ∷ ‵ (flft κ q) ∷ []) ∵
       suffices ! _ (ends_at 𝓛 f.ended stayed (f.clauses 𝓛 at_mem run) (((κ, tt), (q, tt), tt, x, at), tt) vunit tt (r, (tt, (tt, tt))) (tt, (tt, (tt, tt)))) $ says ! e $ nothing ! $ move ! (3 ∷ 0 ∷ []) $ join ! $
@@ -114,7 +114,7 @@ module _ {M : Type 1} {𝓤 : Ura M} (𝓛 : Logic 𝓤) (at_mem : Memory → SP
         calls_at ! fm (Noted 𝓛 at_mem run) known to
         (and_then ! (load ! (from ! (stop !)) (look ! 5 refl)) (and_then ! (load ! (from ! (stop !)) (look ! 11 refl)) (and_then ! (load ! (from ! (stop !)) (look ! 9 refl)) (no_more !)))) (λ u.
         use1 𝓛 (later (some (λ (r : Desk). (‵ ftrue ⊛ ‵ ((T.the_row).own_val r (u ∷ []))) ⊛ raw (ensured 𝓛 noted.ended (noted.clauses 𝓛 at_mem run) tt (h, (n, (s, tt))) tt r)))) (id⊢ 𝓤 _) $ await ! tt $ pick ! (λ r.
-        split ! $ move ! (1 ∷ []) $ use1 𝓛 (raw (fact 𝓤 (r ≡ replyNoted h n s))) (said r) $ heard ! (r ≡ replyNoted h n s) (λ e. split ! $ drop ! $
+        split ! $ move ! (1 ∷ []) $ use1 𝓛 (raw (fact 𝓤 (r ≡ reply_noted h n s))) (said r) $ heard ! (r ≡ reply_noted h n s) (λ e. split ! $ drop ! $
         -- [what the result owns; the record's cell; the open borrow; obs; auth; _5; …; room for _4; …; _3; …; _2; …; _1; …; room for _0; …]
         peeks ! T.the_row (Is T.the_row) (shows 𝓛 T.the_row) r (u ∷ []) (λ is-r.
         land ! (from ! (stop !)) (init ! 7 refl ((LL.lawful T.the_type T'.the_laws 𝓛).typed r _ is-r).0) $
@@ -129,25 +129,25 @@ module _ {M : Type 1} {𝓤 : Ura M} (𝓛 : Logic 𝓤) (at_mem : Memory → SP
 module _ {M : Type 1} {𝓤 : Ura M} (𝓛 : Logic 𝓤) (mem : Memory → SProp 𝓤) (run : Routine → Fun 𝓤) where
   open 𝓛 use {H}
 
-  note-reply-walks : (C : Calls 𝓤 H) (Λ : Loops 𝓤 H) → FmC 𝓤 H 𝓛.laws C → Triple 𝓤 (C #desk·notes-pair) (Noted 𝓛 mem run)
+  note_reply_walks : (C : Calls 𝓤 H) (Λ : Loops 𝓤 H) → FmC 𝓤 H 𝓛.laws C → Triple 𝓤 (C #desk·notes-pair) (Noted 𝓛 mem run)
       → Walks 𝓛 f.ended stayed (WpFn 𝓤 H C Λ code.function) (f.clauses 𝓛 mem run)
-  note-reply-walks C Λ fm known = walked 𝓛 f.ended stayed (f.clauses 𝓛 mem run) (WpFn 𝓤 H C Λ code.function)
+  note_reply_walks C Λ fm known = walked 𝓛 f.ended stayed (f.clauses 𝓛 mem run) (WpFn 𝓤 H C Λ code.function)
       (λ κs. (mut_vals, (uint_vals w8, (LL.vals S.the_type S'.the_laws, tt)))) (λ κs. (mut_Tells (named 0) κs.0 T.the_row, (uint_Tells w8, (LL.tells S.the_type S'.the_laws, tt))))
       (λ κs qs bounds a g are. via 𝓤 _ (fst∗ 𝓤 _ (emp 𝓤)) (walk 𝓛 mem run κs.0 qs.0 a.0.ref_ptr.0 a.0.ref_ptr.1 a.0.ghost_name a.0.now a.1.0 a.1.1.0 are.1.0.1 are.1.1.0 C Λ fm known))
 
   goes : AllGo 𝓛 1 (f.signature).params (f.ended).kept stayed
   goes = (Goes-ref 𝓛 1 0 tt (plain (λ _. T.the_row)), (Goes-none 𝓛 1 (λ _. u8) yes (λ κs x f. refl), (Goes-none 𝓛 1 (λ _. S.the_row) yes (λ κs x f. refl), tt)))
 
-note-reply-meets : {M : Type 1} {𝓤 : Ura M} (𝓛 : Logic 𝓤) (mem : Memory → SProp 𝓤) (run : Routine → Fun 𝓤) (𝓣 : Tables 𝓤 𝓛.H)
+note_reply_meets : {M : Type 1} {𝓤 : Ura M} (𝓛 : Logic 𝓤) (mem : Memory → SProp 𝓤) (run : Routine → Fun 𝓤) (𝓣 : Tables 𝓤 𝓛.H)
     → Triple 𝓤 (𝓣.C #desk·notes-pair) (Noted 𝓛 mem run)
     → Meets 𝓛 f.signature (WpFn 𝓤 𝓛.H 𝓣.C 𝓣.Λ code.function) (f.spec 𝓛 mem run)
-note-reply-meets {𝓤 = 𝓤} 𝓛 mem run 𝓣 known = walk_Meets 𝓛 f.ended stayed (goes 𝓛 mem run) (f.clauses 𝓛 mem run) (WpFn 𝓤 𝓛.H 𝓣.C 𝓣.Λ code.function) (WpFn-mono 𝓤 𝓛.H 𝓛.laws 𝓣 code.function)
-    (note-reply-walks 𝓛 mem run 𝓣.C 𝓣.Λ (fm_of 𝓤 𝓛.H 𝓛.laws 𝓣) known)
+note_reply_meets {𝓤 = 𝓤} 𝓛 mem run 𝓣 known = walk_Meets 𝓛 f.ended stayed (goes 𝓛 mem run) (f.clauses 𝓛 mem run) (WpFn 𝓤 𝓛.H 𝓣.C 𝓣.Λ code.function) (WpFn-mono 𝓤 𝓛.H 𝓛.laws 𝓣 code.function)
+    (note_reply_walks 𝓛 mem run 𝓣.C 𝓣.Λ (fm_of 𝓤 𝓛.H 𝓛.laws 𝓣) known)
 
-pub note-reply-spec : {M : Type 1} → stated.statement M
+pub note_reply_spec : {M : Type 1} → stated.statement M
 unfolding code.routine tables_of
-note-reply-spec 𝓤 𝓛 𝓜 𝓡 =
+note_reply_spec 𝓤 𝓛 𝓜 𝓡 =
     entered 𝓤 𝓛.H (triple_of 𝓛 f.signature (f.spec 𝓛 𝓜.mem 𝓡.run))
     (tables 𝓤 𝓛.H 𝓜 𝓡 code.env).C (tables 𝓤 𝓛.H 𝓜 𝓡 code.env).Λ #desk·note-reply code.function (code.unfolded 𝓤 𝓛.H 𝓜 𝓡)
-    (note-reply-meets 𝓛 𝓜.mem 𝓡.run (tables_of 𝓤 𝓛.H 𝓜 (tables 𝓤 𝓛.H 𝓜 𝓡 code.env))
+    (note_reply_meets 𝓛 𝓜.mem 𝓡.run (tables_of 𝓤 𝓛.H 𝓜 (tables 𝓤 𝓛.H 𝓜 𝓡 code.env))
     (cited 𝓤 𝓛.H (Noted 𝓛 𝓜.mem 𝓡.run) 𝓜 𝓡 code.env #desk·notes-pair noted-def.routine code.calls-desk::notes-pair (noted-thm.met 𝓤 𝓛 𝓜 𝓡)))

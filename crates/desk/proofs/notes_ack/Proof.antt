@@ -4,16 +4,16 @@ use Prim.Native.Nat.{◌*◌, ◌^◌, ◌%◌}
 use mathlib.Core.Path.{◌≡◌}
 use lib.Pow.{shl_exact}
 use borrow.Author.Rules.{rules}
-use Rattle.rules.specs.Desks.{notesAck}
+use Rattle.rules.specs.Desks.{notes_ack}
 use Rattle.desk.proofs.notes_ack.Statement.{statement}
 use Rattle.desk.proofs.notes_ack.Tie as tie
 
 returns : tie.Need-returns
-unfolding notesAck
+unfolding notes_ack
 returns c =
     let s = c.before.args.from in
     let e : 1 * 2 ^ s % 256 ≡ 2 ^ s = omega (arith, shl_exact {a = 1} 1 s 8 (omega arith) (omega (arith, c.before.requires))) in
     rw e
 
-pub notes-ack-spec : {M : Type 1} → statement M
-notes-ack-spec = tie.close (tie.spec (λ c. search rules) returns)
+pub notes_ack_spec : {M : Type 1} → statement M
+notes_ack_spec = tie.close (tie.spec (λ c. search rules) returns)

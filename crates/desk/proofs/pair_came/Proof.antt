@@ -12,5 +12,5 @@ returns-2 c =
     let e = c.before.before in
     rw (sym e.before.is-first.ensures ∙ not-false _ e.if1.false) (rw c.before.with-reply.ensures at c.counted.ensures)
 
-pub pair-came-spec : {M : Type 1} → statement M
-pair-came-spec = tie.close (tie.spec (λ c κs. tt) (λ c κs. tt) returns (λ c κs. tt) (λ c κs. tt) returns-2)
+pub pair_came_spec : {M : Type 1} → statement M
+pair_came_spec = tie.close (tie.spec (λ c κs. tt) (λ c κs. tt) returns (λ c κs. tt) (λ c κs. tt) returns-2)

@@ -10,5 +10,5 @@ returns c = rw (sym c.before.before.inside.ensures ∙ not-true _ c.before.if1.t
 returns-2 : tie.Need-returns-2
 returns-2 c = rw (sym c.before.before.before.inside.ensures ∙ not-false _ c.before.before.if1.false) c.begins.ensures
 
-pub view-came-spec : {M : Type 1} → statement M
-view-came-spec = tie.close (tie.spec (λ c κs. tt) (λ c κs. tt) returns (λ c κs. tt) returns-2)
+pub view_came_spec : {M : Type 1} → statement M
+view_came_spec = tie.close (tie.spec (λ c κs. tt) (λ c κs. tt) returns (λ c κs. tt) returns-2)

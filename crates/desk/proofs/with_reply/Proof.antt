@@ -45,7 +45,7 @@ use Rattle.stamps.proofs.Pair.TheLaws as S'
 use Rattle.rules.specs.declared.Desk.{Desk}
 use Rattle.rules.specs.contracts.Desk as T
 use Rattle.rules.proofs.Desk.TheLaws as T'
-use Rattle.desk.specs.Replies.{replyNoted}
+use Rattle.desk.specs.Replies.{reply_noted}
 use Rattle.desk.specs.contracts.note_reply as note
 use Rattle.desk.proofs.note_reply.Symbol as note-def
 use Rattle.desk.proofs.note_reply.Symbol.{name as #desk·note-reply}
@@ -56,8 +56,8 @@ use Rattle.desk.proofs.with_reply.Statement as stated
 use Rattle.desk.proofs.with_reply.Code as code
 
 -- a desk as the machine has it
-abbrev desk-val : Desk → Val
-desk-val d = LL.val T.the_type T'.the_laws d
+abbrev desk_val : Desk → Val
+desk_val d = LL.val T.the_type T'.the_laws d
 
 abbrev stayed : Stays (f.ended).signature.params (f.ended).kept
 stayed = (stay_none (λ _. T.the_row) yes, (stay_none (λ _. u8) yes, (stay_none (λ _. S.the_row) yes, tt)))
@@ -69,29 +69,29 @@ module _ {M : Type 1} {𝓤 : Ura M} (𝓛 : Logic 𝓤) (mem : Memory → SProp
 
 module _ {M : Type 1} {𝓤 : Ura M} (𝓛 : Logic 𝓤) where
   -- a record in a local is one that lies there, as a borrow holds it, and the other way round
-  lies : (b : ℕ) (d : Desk) → Is T.the_row d (desk-val d ∷ []) → ent 𝓤 (sem 𝓛 (fat full_share T'.mir b 0 (desk-val d))) (sem 𝓛 (part_at T.the_row full_share d b 0))
+  lies : (b : ℕ) (d : Desk) → Is T.the_row d (desk_val d ∷ []) → ent 𝓤 (sem 𝓛 (fat full_share T'.mir b 0 (desk_val d))) (sem 𝓛 (part_at T.the_row full_share d b 0))
   unfolding part_of
   lies b d is =
-      qed 𝓛 (‵ (fat full_share T'.mir b 0 (desk-val d)) ∷ []) ∵ use1 𝓛 (‵ (cell_at full_share (T.the_row).mir (desk-val d ∷ []) b 0)) (𝓛.laws.at_raw full_share T'.mir b 0 (desk-val d)) $
-      owned ! T.the_row (Is T.the_row) (LL.makes T.the_type T'.the_plain 𝓛) d _ is $ move ! (1 ∷ 0 ∷ []) $ fjoin ! $ fpack ! (List Val) (λ us. fsep (cell_at full_share (T.the_row).mir us b 0) ((T.the_row).own_val d us)) (desk-val d ∷ []) $ done !
+      qed 𝓛 (‵ (fat full_share T'.mir b 0 (desk_val d)) ∷ []) ∵ use1 𝓛 (‵ (cell_at full_share (T.the_row).mir (desk_val d ∷ []) b 0)) (𝓛.laws.at_raw full_share T'.mir b 0 (desk_val d)) $
+      owned ! T.the_row (Is T.the_row) (LL.makes T.the_type T'.the_plain 𝓛) d _ is $ move ! (1 ∷ 0 ∷ []) $ fjoin ! $ fpack ! (List Val) (λ us. fsep (cell_at full_share (T.the_row).mir us b 0) ((T.the_row).own_val d us)) (desk_val d ∷ []) $ done !
 
   opened : (b : ℕ) (d : Desk) → ent 𝓤 (sem 𝓛 (part_at T.the_row full_share d b 0)) (ex 𝓤 (λ (us : List Val). sep 𝓤 (sem 𝓛 (cell_at full_share (T.the_row).mir us b 0)) (sem 𝓛 ((T.the_row).own_val d us))))
   unfolding part_of
   opened b d = id⊢ 𝓤 _
 
 module _ {M : Type 1} {𝓤 : Ura M} (𝓛 : Logic 𝓤) (at_mem : Memory → SProp 𝓤) (run : Routine → Fun 𝓤) (h : Desk) (n : ℕ) (s : Pair)
-    (is-h : Is T.the_row h (desk-val h ∷ [])) (is-n : n < 2 ^ 8) (is-s : Is S.the_row s (S'.lowered s ∷ [])) where
+    (is-h : Is T.the_row h (desk_val h ∷ [])) (is-n : n < 2 ^ 8) (is-s : Is S.the_row s (S'.lowered s ∷ [])) where
   open 𝓛 use {H, A}
 
   abbrev x : Desk × (ℕ × (Pair × Unit {0}))
   x = (h, (n, (s, tt)))
 
   abbrev at : Vals f.signature tt
-  at = (desk-val h ∷ [], (vint w8 n ∷ [], (S'.lowered s ∷ [], tt)))
+  at = (desk_val h ∷ [], (vint w8 n ∷ [], (S'.lowered s ∷ [], tt)))
 
   -- the record with the reply noted
   abbrev g : Desk
-  g = replyNoted h n s
+  g = reply_noted h n s
 
   abbrev Post : Val → SProp 𝓤
   Post = (walk_of 𝓛 f.ended stayed (f.clauses 𝓛 at_mem run)).post ((tt, tt, tt, x, at), tt)
@@ -116,17 +116,17 @@ module _ {M : Type 1} {𝓤 : Ura M} (𝓛 : Logic 𝓤) (at_mem : Memory → SP
       fact_use 𝓤 (ws.0 ≡ g) (snd∗ 𝓤 L E) (λ e.
       subst (λ (w : Desk). ent 𝓤 (sep 𝓤 L E) (A.res γ ((T.the_row).coded.code w))) e (via 𝓤 L (fst∗ 𝓤 L E) (fst∗ 𝓤 (A.res γ ((T.the_row).coded.code ws.0)) (sem 𝓛 (fsep ftrue (fsep ftrue ftrue)))))))
 
-  exits : Is T.the_row g (desk-val g ∷ []) → ent 𝓤 (emp 𝓤) (Post (desk-val g))
+  exits : Is T.the_row g (desk_val g ∷ []) → ent 𝓤 (emp 𝓤) (Post (desk_val g))
   exits is-g =
       qed 𝓛 (‵ ftrue ∷ []) ∵
-      suffices ! _ (ends_at 𝓛 f.ended stayed (f.clauses 𝓛 at_mem run) ((tt, tt, tt, x, at), tt) (desk-val g) g (tt, (tt, (tt, tt))) (tt, (tt, (tt, tt)))) $ says ! refl $
+      suffices ! _ (ends_at 𝓛 f.ended stayed (f.clauses 𝓛 at_mem run) ((tt, tt, tt, x, at), tt) (desk_val g) g (tt, (tt, (tt, tt))) (tt, (tt, (tt, tt)))) $ says ! refl $
       owned ! T.the_row (Is T.the_row) (LL.makes T.the_type T'.the_plain 𝓛) g _ is-g $ move ! (1 ∷ 0 ∷ []) $ owned ! S.the_row (Is S.the_row) (LL.makes S.the_type S'.the_plain 𝓛) s _ is-s $ fjoin ! $ owned ! u8 (Is u8) (uint_Makes 𝓛 w8) n _ (refl, is-n) $ fjoin ! $
       owned ! T.the_row (Is T.the_row) (LL.makes T.the_type T'.the_plain 𝓛) h _ is-h $ fjoin ! $ nothing ! $ done !
 
   module _ (C : Calls 𝓤 H) (Λ : Loops 𝓤 H) (fm : FmC 𝓤 H 𝓛.laws C) (known : Triple 𝓤 (C #desk·note-reply) (Note 𝓛 at_mem run)) where
-    walk : ent 𝓤 (on_entry 𝓛 f.signature tt tt x at) (WpFn 𝓤 H C Λ code.function (desk-val h ∷ vint w8 n ∷ S'.lowered s ∷ []) Post)
+    walk : ent 𝓤 (on_entry 𝓛 f.signature tt tt x at) (WpFn 𝓤 H C Λ code.function (desk_val h ∷ vint w8 n ∷ S'.lowered s ∷ []) Post)
     walk =
-        qed 𝓛 (‵ ftrue ∷ ‵ (owns (T.the_row ∷ u8 ∷ S.the_row ∷ []) x at) ∷ []) ∵ enter ! C Λ code.function (desk-val h ∷ vint w8 n ∷ S'.lowered s ∷ []) _ $
+        qed 𝓛 (‵ ftrue ∷ ‵ (owns (T.the_row ∷ u8 ∷ S.the_row ∷ []) x at) ∷ []) ∵ enter ! C Λ code.function (desk_val h ∷ vint w8 n ∷ S'.lowered s ∷ []) _ $
         alloc1 ! (λ l₀. alloc1 ! (λ l₁. alloc1 ! (λ l₂. alloc1 ! (λ l₃. alloc1 ! (λ l₄. alloc1 ! (λ l₅. alloc1 ! (λ l₆. alloc0 ! $ params1 ! $
         pass1 ! (init ! 10 refl ((LL.lawful T.the_type T'.the_laws 𝓛).typed h _ is-h).0) $ pass1 ! (init ! 8 refl (tt, record { fits = is-n })) $ pass1 ! (init ! 6 refl ((LL.lawful S.the_type S'.the_laws 𝓛).typed s _ is-s).0) $ pass0 ! $
         assigns ! (of_opd ! (load ! (from ! (stop !)) (look ! 10 refl))) (from ! (stop !)) (init ! 4 refl ((LL.lawful T.the_type T'.the_laws 𝓛).typed h _ is-h).0) $
@@ -147,7 +147,7 @@ module _ {M : Type 1} {𝓤 : Ura M} (𝓛 : Logic 𝓤) (at_mem : Memory → SP
         drop ! $ split ! $ lft_end ! tt $ move ! (0 ∷ 3 ∷ 2 ∷ []) $ use3 𝓛 (later (‵ (part_at T.the_row full_share g l₄ 0))) (ref_back 𝓛 T.the_row (α ∷ []) γ g l₄ 0) $ await ! tt $
         use1 𝓛 (some (λ (us : List Val). ‵ (cell_at full_share (T.the_row).mir us l₄ 0) ⊛ ‵ ((T.the_row).own_val g us))) (opened 𝓛 l₄ g) $ pick ! (λ us. split ! $
         spelt ! T.the_row (Is T.the_row) (shows 𝓛 T.the_row) (LL.vals T.the_type T'.the_laws) (LL.tells T.the_type T'.the_laws) full_share g us l₄ 0 $
-        use1 𝓛 (‵ (fat full_share T'.mir l₄ 0 (desk-val g))) (𝓛.laws.raw_at full_share T'.mir l₄ 0 (desk-val g)) $
+        use1 𝓛 (‵ (fat full_share T'.mir l₄ 0 (desk_val g))) (𝓛.laws.raw_at full_share T'.mir l₄ 0 (desk_val g)) $
         move ! (1 ∷ []) $ peeks ! T.the_row (Is T.the_row) (shows 𝓛 T.the_row) g (LL.vals T.the_type T'.the_laws g) (λ is-g. drop ! $
         -- [_4; true; _6; …; _5; …; _4's end; _3; …; _2; …; _1; …; room for _0; …]
         assigns ! (of_opd ! (load ! (from ! (stop !)) (look ! 0 refl))) (from ! (stop !)) (init ! 13 refl ((LL.lawful T.the_type T'.the_laws 𝓛).typed g _ is-g).0) $
@@ -158,25 +158,25 @@ module _ {M : Type 1} {𝓤 : Ura M} (𝓛 : Logic 𝓤) (at_mem : Memory → SP
 module _ {M : Type 1} {𝓤 : Ura M} (𝓛 : Logic 𝓤) (mem : Memory → SProp 𝓤) (run : Routine → Fun 𝓤) where
   open 𝓛 use {H}
 
-  with-reply-walks : (C : Calls 𝓤 H) (Λ : Loops 𝓤 H) → FmC 𝓤 H 𝓛.laws C → Triple 𝓤 (C #desk·note-reply) (Note 𝓛 mem run)
+  with_reply_walks : (C : Calls 𝓤 H) (Λ : Loops 𝓤 H) → FmC 𝓤 H 𝓛.laws C → Triple 𝓤 (C #desk·note-reply) (Note 𝓛 mem run)
       → Walks 𝓛 f.ended stayed (WpFn 𝓤 H C Λ code.function) (f.clauses 𝓛 mem run)
-  with-reply-walks C Λ fm known = walked 𝓛 f.ended stayed (f.clauses 𝓛 mem run) (WpFn 𝓤 H C Λ code.function)
+  with_reply_walks C Λ fm known = walked 𝓛 f.ended stayed (f.clauses 𝓛 mem run) (WpFn 𝓤 H C Λ code.function)
       (λ κs. (LL.vals T.the_type T'.the_laws, (uint_vals w8, (LL.vals S.the_type S'.the_laws, tt)))) (λ κs. (LL.tells T.the_type T'.the_laws, (uint_Tells w8, (LL.tells S.the_type S'.the_laws, tt))))
       (λ κs qs bounds a g are. via 𝓤 _ (fst∗ 𝓤 _ (emp 𝓤)) (walk 𝓛 mem run a.0 a.1.0 a.1.1.0 are.0 are.1.0.1 are.1.1.0 C Λ fm known))
 
   goes : AllGo 𝓛 0 (f.signature).params (f.ended).kept stayed
   goes = (Goes-none 𝓛 0 (λ _. T.the_row) yes (λ κs x f. refl), (Goes-none 𝓛 0 (λ _. u8) yes (λ κs x f. refl), (Goes-none 𝓛 0 (λ _. S.the_row) yes (λ κs x f. refl), tt)))
 
-with-reply-meets : {M : Type 1} {𝓤 : Ura M} (𝓛 : Logic 𝓤) (mem : Memory → SProp 𝓤) (run : Routine → Fun 𝓤) (𝓣 : Tables 𝓤 𝓛.H)
+with_reply_meets : {M : Type 1} {𝓤 : Ura M} (𝓛 : Logic 𝓤) (mem : Memory → SProp 𝓤) (run : Routine → Fun 𝓤) (𝓣 : Tables 𝓤 𝓛.H)
     → Triple 𝓤 (𝓣.C #desk·note-reply) (Note 𝓛 mem run)
     → Meets 𝓛 f.signature (WpFn 𝓤 𝓛.H 𝓣.C 𝓣.Λ code.function) (f.spec 𝓛 mem run)
-with-reply-meets {𝓤 = 𝓤} 𝓛 mem run 𝓣 known = walk_Meets 𝓛 f.ended stayed (goes 𝓛 mem run) (f.clauses 𝓛 mem run) (WpFn 𝓤 𝓛.H 𝓣.C 𝓣.Λ code.function) (WpFn-mono 𝓤 𝓛.H 𝓛.laws 𝓣 code.function)
-    (with-reply-walks 𝓛 mem run 𝓣.C 𝓣.Λ (fm_of 𝓤 𝓛.H 𝓛.laws 𝓣) known)
+with_reply_meets {𝓤 = 𝓤} 𝓛 mem run 𝓣 known = walk_Meets 𝓛 f.ended stayed (goes 𝓛 mem run) (f.clauses 𝓛 mem run) (WpFn 𝓤 𝓛.H 𝓣.C 𝓣.Λ code.function) (WpFn-mono 𝓤 𝓛.H 𝓛.laws 𝓣 code.function)
+    (with_reply_walks 𝓛 mem run 𝓣.C 𝓣.Λ (fm_of 𝓤 𝓛.H 𝓛.laws 𝓣) known)
 
-pub with-reply-spec : {M : Type 1} → stated.statement M
+pub with_reply_spec : {M : Type 1} → stated.statement M
 unfolding code.routine tables_of
-with-reply-spec 𝓤 𝓛 𝓜 𝓡 =
+with_reply_spec 𝓤 𝓛 𝓜 𝓡 =
     entered 𝓤 𝓛.H (triple_of 𝓛 f.signature (f.spec 𝓛 𝓜.mem 𝓡.run))
     (tables 𝓤 𝓛.H 𝓜 𝓡 code.env).C (tables 𝓤 𝓛.H 𝓜 𝓡 code.env).Λ #desk·with-reply code.function (code.unfolded 𝓤 𝓛.H 𝓜 𝓡)
-    (with-reply-meets 𝓛 𝓜.mem 𝓡.run (tables_of 𝓤 𝓛.H 𝓜 (tables 𝓤 𝓛.H 𝓜 𝓡 code.env))
+    (with_reply_meets 𝓛 𝓜.mem 𝓡.run (tables_of 𝓤 𝓛.H 𝓜 (tables 𝓤 𝓛.H 𝓜 𝓡 code.env))
     (cited 𝓤 𝓛.H (Note 𝓛 𝓜.mem 𝓡.run) 𝓜 𝓡 code.env #desk·note-reply note-def.routine code.calls-desk::note-reply (note-thm.met 𝓤 𝓛 𝓜 𝓡)))

@@ -10,5 +10,5 @@ returns : tie.Need-returns
 unfolding fields_of
 returns c = let n = c.before.before.before.before.before.before.before.args.n in rw (append-nil (be32 n)) at c.before.before.put-fields.ensures
 
-pub put-length-spec : {M : Type 1} → statement M
-put-length-spec = tie.close (tie.spec (λ c. search rules) (λ c. search rules) (λ c κs. search rules) (λ c. search rules) returns)
+pub put_length_spec : {M : Type 1} → statement M
+put_length_spec = tie.close (tie.spec (λ c. search rules) (λ c. search rules) (λ c κs. search rules) (λ c. search rules) returns)

@@ -12,5 +12,5 @@ returns c = rw (sym (bad-is _) ∙ ap (λ (s : Sheet). s.bad) (sym c.before.chec
 returns-2 : tie.Need-returns-2
 returns-2 c = rw (sym (bad-is _) ∙ ap (λ (s : Sheet). s.bad) (sym c.before.check.ensures) ∙ c.if1.false)
 
-pub sheet-check-spec : {M : Type 1} → statement M
-sheet-check-spec = tie.close (tie.spec (λ c κs. tt) returns returns-2)
+pub sheet_check_spec : {M : Type 1} → statement M
+sheet_check_spec = tie.close (tie.spec (λ c κs. tt) returns returns-2)

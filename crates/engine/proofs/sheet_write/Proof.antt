@@ -12,8 +12,8 @@ returns-2 c = let e = c.before.before.before.before.write.ensures in (rw c.enum_
 returns-3 : tie.Need-returns-3
 returns-3 c = let e = c.before.before.before.before.write.ensures in (rw c.enum-told2.given.1 at e.0.0, e.1)
 
-pub sheet-write-spec : {M : Type 1} → statement M
-sheet-write-spec =
+pub sheet_write_spec : {M : Type 1} → statement M
+sheet_write_spec =
     tie.close
     (tie.spec (λ c κs. search rules) (λ c. search rules) (λ c. search rules) (λ c. search rules) (λ c. search rules) returns (λ c. search rules) returns-2
     (λ c. search rules) returns-3)

@@ -9,5 +9,5 @@ returns c = rw (sym c.before.is-good.ensures ∙ c.if1.true)
 returns-2 : tie.Need-returns-2
 returns-2 c = rw (sym c.before.is-good.ensures ∙ c.if1.false)
 
-pub world-good-spec : {M : Type 1} → statement M
-world-good-spec = tie.close (tie.spec (λ c κs. tt) returns returns-2)
+pub world_good_spec : {M : Type 1} → statement M
+world_good_spec = tie.close (tie.spec (λ c κs. tt) returns returns-2)

@@ -10,5 +10,5 @@ returns : tie.Need-returns
 unfolding lent_of
 returns c = let e = c.before.before.start.ensures in (ap (λ (l : Lent). l.answer) e, ap (λ (l : Lent). l.buffer) e)
 
-pub world-start-spec : {M : Type 1} → statement M
-world-start-spec = tie.close (tie.spec (λ c κs. tt) (λ c. search rules) returns)
+pub world_start_spec : {M : Type 1} → statement M
+world_start_spec = tie.close (tie.spec (λ c κs. tt) (λ c. search rules) returns)

@@ -27,7 +27,7 @@ returns-3 c =
     step.step.result step.step.new.0 step.step.ensures
     done.if2.false _ _ put.before.columns_of.ensures put.put-columns.ensures
 
-pub world-step-spec : {M : Type 1} → statement M
-world-step-spec =
+pub world_step_spec : {M : Type 1} → statement M
+world_step_spec =
     tie.close
     (tie.spec returns (λ c κs. tt) (λ c. search rules) returns-2 (λ c κs. tt) (λ c κs. tt) (λ c. search rules) (λ c. search rules) returns-3)

@@ -7,5 +7,5 @@ returns : tie.Need-returns
 unfolding fresh_row
 returns c = rw c.empty.ensures
 
-pub fresh-spec : {M : Type 1} → statement M
-fresh-spec = tie.close (tie.spec (λ c κs. tt) returns)
+pub fresh_spec : {M : Type 1} → statement M
+fresh_spec = tie.close (tie.spec (λ c κs. tt) returns)

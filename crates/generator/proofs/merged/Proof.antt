@@ -1,15 +1,15 @@
 -- `generator::merged` meets its contract. Assumes nothing.
 use Rattle.views.proofs.Rows.{held}
-use Rattle.rules.specs.Generators.{hears, withOwn}
-use Rattle.state.specs.Meaning.{generatorOf}
-use Rattle.generator.specs.Heard.{mergedInRow}
-use Rattle.generator.proofs.Rows.{noted-means}
+use Rattle.rules.specs.Generators.{hears, with_own}
+use Rattle.state.specs.Meaning.{generator_of}
+use Rattle.generator.specs.Heard.{merged_in_row}
+use Rattle.generator.proofs.Rows.{noted_means}
 use Rattle.generator.proofs.merged.Statement.{statement}
 use Rattle.generator.proofs.merged.Tie as tie
 
 returns : tie.Need-returns
-unfolding generatorOf mergedInRow hears withOwn
-returns c = rw (held _ _ c.before.heard.ensures, noted-means _ _ _ c.noted.ensures)
+unfolding generator_of merged_in_row hears with_own
+returns c = rw (held _ _ c.before.heard.ensures, noted_means _ _ _ c.noted.ensures)
 
-pub merged-spec : {M : Type 1} → statement M
-merged-spec = tie.close (tie.spec (λ c κs. tt) (λ c κs. tt) returns)
+pub merged_spec : {M : Type 1} → statement M
+merged_spec = tie.close (tie.spec (λ c κs. tt) (λ c κs. tt) returns)

@@ -1,19 +1,19 @@
 -- `image::generator_at` meets its contract. Assumes nothing.
 use borrow.Author.Rules.{rules}
-use Rattle.image.specs.Parts.{generatorRowAt}
-use Rattle.image.proofs.Ends.{alike_end, generator-alike}
+use Rattle.image.specs.Parts.{generator_row_at}
+use Rattle.image.proofs.Ends.{alike_end, generator_alike}
 use Rattle.image.proofs.generator_at.Statement.{statement}
 use Rattle.image.proofs.generator_at.Tie as tie
 
 returns : tie.Need-returns
-unfolding generatorRowAt
+unfolding generator_row_at
 returns c =
     let start = c.before.before.before.before.before.before in
     let a = start.before.before.args in
-    cc (generator-alike (alike_end a.s.now a.at _ start.smaller.ensures))
+    cc (generator_alike (alike_end a.s.now a.at _ start.smaller.ensures))
 
-pub generator-at-spec : {M : Type 1} → statement M
-generator-at-spec =
+pub generator_at_spec : {M : Type 1} → statement M
+generator_at_spec =
     tie.close
     (tie.spec (λ c κs. tt) (λ c κs. tt) (λ c. search rules) (λ c κs. tt) (λ c. search rules) (λ c κs. tt) (λ c. search rules)
     (λ c κs. tt) (λ c. search rules) (λ c κs. tt) (λ c. search rules) (λ c κs. tt) returns)

@@ -24,5 +24,5 @@ returns-5 c =
     let c2 = c3.before in
     rw (ne_eqb _ _ c2.before.if1.false, ne_eqb _ _ c2.if2.false, ne_eqb _ _ c3.if3.false, ne_eqb _ _ c.if4.false)
 
-pub phase-of-spec : {M : Type 1} → statement M
-phase-of-spec = tie.close (tie.spec returns returns-2 returns-3 returns-4 returns-5)
+pub phase_of_spec : {M : Type 1} → statement M
+phase_of_spec = tie.close (tie.spec returns returns-2 returns-3 returns-4 returns-5)

@@ -7,15 +7,15 @@ use Rattle.rows.specs.Bytes.{cat}
 use Rattle.rows.proofs.Laws.{put_first, put_then}
 use Rattle.rows.proofs.Numbers.{length-be16}
 use Rattle.rows.proofs.Tables.{length-zeros}
-use Rattle.layout.specs.Image.{generatorBytes}
-use Rattle.state.specs.Meaning.{notesOf, generatorOf}
-use Rattle.image.specs.Parts.{notesBytes}
-use Rattle.image.proofs.Widths.{length-notes, length-sequence}
+use Rattle.layout.specs.Image.{generator_bytes}
+use Rattle.state.specs.Meaning.{notes_of, generator_of}
+use Rattle.image.specs.Parts.{notes_bytes}
+use Rattle.image.proofs.Widths.{length_notes, length-sequence}
 use Rattle.image.proofs.put_generator_fields.Statement.{statement}
 use Rattle.image.proofs.put_generator_fields.Tie as tie
 
 returns : tie.Need-returns
-unfolding generatorBytes generatorOf notesBytes cat
+unfolding generator_bytes generator_of notes_bytes cat
 returns c =
     let k7 = c.before.before in
     let k6 = k7.before.before.before.before in
@@ -30,13 +30,13 @@ returns c =
     let p2 = put_then _ _ p1 (length-sequence _) (omega (arith, start.requires)) k2.put-sequence.ensures in
     let p3 = put_then _ _ p2 (length-sequence _) (omega (arith, start.requires)) k3.put-sequence2.ensures in
     let p4 = put_then _ _ p3 (length-sequence _) (omega (arith, start.requires)) k4.put-sequence3.ensures in
-    let p5 = put_then _ _ p4 (length-notes (notesOf g.proposals)) (omega (arith, start.requires)) k5.put-notes.ensures in
-    let p6 = put_then _ _ p5 (length-notes (notesOf g.convergences)) (omega (arith, start.requires)) k6.put-notes2.ensures in
+    let p5 = put_then _ _ p4 (length_notes (notes_of g.proposals)) (omega (arith, start.requires)) k5.put-notes.ensures in
+    let p6 = put_then _ _ p5 (length_notes (notes_of g.convergences)) (omega (arith, start.requires)) k6.put-notes2.ensures in
     let p7 = put_then _ _ p6 (length-zeros _) (omega (arith, start.requires)) k7.clear.ensures in
     p7.is ∙ simp (append_assoc, append-nil)
 
-pub put-generator-fields-spec : {M : Type 1} → statement M
-put-generator-fields-spec =
+pub put_generator_fields_spec : {M : Type 1} → statement M
+put_generator_fields_spec =
     tie.close
     (tie.spec
     (λ c κs. search rules) (λ c. search rules) (λ c κs. search rules) (λ c. search rules) (λ c κs. search rules) (λ c. search rules)

@@ -6,19 +6,19 @@ use lib.ListN.{length}
 use borrow.Author.Rules.{rules}
 use Rattle.rows.proofs.Laws.{room, no_room}
 use Rattle.rows.proofs.Numbers.{byte-number}
-use Rattle.layout.specs.Layout.{transferWidth}
-use Rattle.layout.specs.Image.{transferBytes}
-use Rattle.layout.proofs.Widths.{length-transfer}
-use Rattle.state.specs.Meaning.{transferOf}
-use Rattle.image.proofs.Fields.{none, blank, piece, pair, laid-around, around}
+use Rattle.layout.specs.Layout.{transfer_width}
+use Rattle.layout.specs.Image.{transfer_bytes}
+use Rattle.layout.proofs.Widths.{length_transfer}
+use Rattle.state.specs.Meaning.{transfer_of}
+use Rattle.image.proofs.Fields.{none, blank, piece, pair, laid_around, around}
 use Rattle.image.proofs.put_transfer.Statement.{statement}
 use Rattle.image.proofs.put_transfer.Tie as tie
 
-space : (c : tie.Else1) → let a = c.before.before.before.before.before.before.before.before.before.before.before.args in a.at + transferWidth ≤ length a.s.now
+space : (c : tie.Else1) → let a = c.before.before.before.before.before.before.before.before.before.before.before.args in a.at + transfer_width ≤ length a.s.now
 space c = room c.before.has_room.ensures c.if1.false
 
 returns : tie.Need-returns
-returns c = no_room _ _ _ (length-transfer _) c.before.has_room.ensures c.if1.true
+returns c = no_room _ _ _ (length_transfer _) c.before.has_room.ensures c.if1.true
 
 add-put-sequence : tie.Need-overflow-add-put-sequence
 add-put-sequence c = let e = c.before.before.before.before.before.before.before in omega (arith, space e, e.before.before.before.before.before.before.before.before.before.before.before.well-formed)
@@ -27,19 +27,19 @@ add-put-fields : tie.Need-overflow-add-put-fields
 add-put-fields c = let e = c.before.before.before.before.before.before.before.before.before.before.before in omega (arith, space e, e.before.before.before.before.before.before.before.before.before.before.before.well-formed)
 
 returns-2 : tie.Need-returns-2
-unfolding transferBytes transferOf
+unfolding transfer_bytes transfer_of
 returns-2 c =
     let back = c.before.before in
     let middle = back.before.before.before.before.before.before in
     let front = middle.before.before.before.before in
     let e = front.before.before.before.before in
     let t = e.before.before.struct-known6.given in
-    laid-around _ _ _ (around _ _ _ _ _ _ _ _ _ _ _ _ refl refl (space e) front.put-fields.ensures middle.put-sequence.ensures back.put-fields2.ensures)
+    laid_around _ _ _ (around _ _ _ _ _ _ _ _ _ _ _ _ refl refl (space e) front.put-fields.ensures middle.put-sequence.ensures back.put-fields2.ensures)
     (piece refl (piece refl none))
     (piece (byte-number t.1.1.1.0) (pair _ t.1.1.1.1.0.0.1.0 (piece refl blank)))
 
-pub put-transfer-spec : {M : Type 1} → statement M
-put-transfer-spec =
+pub put_transfer_spec : {M : Type 1} → statement M
+put_transfer_spec =
     tie.close
     (tie.spec
     (λ c. search rules) (λ c. search rules) (λ c. search rules) (λ c. search rules) (λ c. search rules) (λ c. search rules)

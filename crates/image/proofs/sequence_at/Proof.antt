@@ -9,12 +9,12 @@ use lib.Seq.{ext_get_or, get_or-set_other}
 use borrow.Author.Rules.{rules}
 use borrow.Author.Tests.{ltb-true, ltb-false}
 use Rattle.views.proofs.Truth.{cases}
-use Rattle.rows.specs.Bytes.{u16At, tab}
-use Rattle.rows.proofs.Laws.{length-tab, getD-tab, Filled, fill_none, fill_more}
+use Rattle.rows.specs.Bytes.{u16_at, tab}
+use Rattle.rows.proofs.Laws.{length-tab, get_d_tab, Filled, fill_none, fill_more}
 use Rattle.views.specs.Choice.{if◌then◌else◌}
 use Rattle.views.specs.declared.Sequence.{Sequence}
-use Rattle.image.specs.Parts.{sequenceRowAt}
-use Rattle.image.proofs.Ends.{alike_end, sequence-alike}
+use Rattle.image.specs.Parts.{sequence_row_at}
+use Rattle.image.proofs.Ends.{alike_end, sequence_alike}
 use Rattle.image.proofs.sequence_at.Statement.{statement}
 use Rattle.image.proofs.sequence_at.Tie as tie
 
@@ -23,13 +23,13 @@ record Begun (f : ℕ → ℕ) (i : ℕ) (l : List ℕ) : Type 0 where
   filled : Filled 15 0 f i l
   blank : (k : ℕ) → i ≤ k → get_or l k 0 ≡ 0
 
-zero-at : (n k : ℕ) → ◌≡◌ {A = ℕ} (get_or (replicate n 0) k 0) 0
-zero-at zero k = refl
-zero-at (suc n) zero = refl
-zero-at (suc n) (suc k) = zero-at n k
+zero_at : (n k : ℕ) → ◌≡◌ {A = ℕ} (get_or (replicate n 0) k 0) 0
+zero_at zero k = refl
+zero_at (suc n) zero = refl
+zero_at (suc n) (suc k) = zero_at n k
 
 none : (f : ℕ → ℕ) → Begun f 0 (replicate 15 0)
-none f = record { filled = fill_none refl; blank = λ k p. zero-at 15 k }
+none f = record { filled = fill_none refl; blank = λ k p. zero_at 15 k }
 
 more : {f : ℕ → ℕ} {i x : ℕ} {l : List ℕ} → Begun f i l → i < 15 → x ≡ f i → Begun f (i + 1) (set l i x)
 more {f} {i} {x} {l} h b e =
@@ -38,7 +38,7 @@ more {f} {i} {x} {l} h b e =
 whole : (len : ℕ) {f : ℕ → ℕ} {i : ℕ} {l : List ℕ} → Begun f i l → i ≡ min len 15 → l ≡ tab 15 (λ k. if ltb k len then f k else 0)
 whole len {f} {i} {l} h e =
     ext_get_or 0 l (tab 15 g) (h.filled.long ∙ sym (length-tab 15 g))
-    (λ k p. let b : k < 15 = omega (arith, h.filled.long) in at k b ∙ sym (getD-tab 15 k g 0 b))
+    (λ k p. let b : k < 15 = omega (arith, h.filled.long) in at k b ∙ sym (get_d_tab 15 k g 0 b))
   where
     g : ℕ → ℕ
     g k = if ltb k len then f k else 0
@@ -50,7 +50,7 @@ whole len {f} {i} {l} h e =
         (λ t. h.blank k (omega (arith, ltb-false k len t)))
 
 abbrev invariant-loop : tie.invariant-loop
-invariant-loop s at a len n views₀ i₀ views i = Begun (λ k. u16At s (a + 2 * k)) i views × (i ≤ n)
+invariant-loop s at a len n views₀ i₀ views i = Begun (λ k. u16_at s (a + 2 * k)) i views × (i ≤ n)
 
 abbrev decreases-loop : tie.decreases-loop
 decreases-loop s at a len n views₀ i₀ views i = n - i
@@ -62,16 +62,16 @@ abbrev row : List ℕ → ℕ → Sequence
 row views len = record { views = views; len = len }
 
 returns : tie.Need-returns invariant-loop decreases-loop
-unfolding sequenceRowAt
+unfolding sequence_row_at
 returns c =
     let counted = c.before.before in
     let start = counted.before.before in
     let a = start.before.before.args in
     ap₂ row (whole _ c.before.loop.invariant.0 (omega arith)) counted.before.byte_at.ensures
-    ∙ sequence-alike (alike_end a.s.now a.at _ start.smaller.ensures)
+    ∙ sequence_alike (alike_end a.s.now a.at _ start.smaller.ensures)
 
-pub sequence-at-spec : {M : Type 1} → statement M
-sequence-at-spec =
+pub sequence_at_spec : {M : Type 1} → statement M
+sequence_at_spec =
     tie.close
     (tie.spec invariant-loop decreases-loop (λ c κs. tt) (λ c. search rules) (λ c κs. tt) (λ c. search rules) (λ c κs. tt)
     (λ c. (none _, omega arith)) (λ c. search rules) (λ c. search rules) (λ c κs. tt)

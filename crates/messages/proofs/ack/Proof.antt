@@ -1,11 +1,11 @@
 -- `messages::ack` meets its contract. Assumes nothing.
-use Rattle.messages.specs.Made.{blankOf, madeWith}
+use Rattle.messages.specs.Made.{blank_of, made_with}
 use Rattle.messages.proofs.ack.Statement.{statement}
 use Rattle.messages.proofs.ack.Tie as tie
 
 returns : tie.Need-returns
-unfolding madeWith blankOf
+unfolding made_with blank_of
 returns c = rw c.blank.ensures
 
-pub ack-spec : {M : Type 1} → statement M
-ack-spec = tie.close (tie.spec (λ c κs. tt) returns)
+pub ack_spec : {M : Type 1} → statement M
+ack_spec = tie.close (tie.spec (λ c κs. tt) returns)

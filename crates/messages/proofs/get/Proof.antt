@@ -1,10 +1,10 @@
 -- `messages::get` meets its contract. Assumes nothing.
-use Rattle.messages.specs.Made.{blankOf, madeWith}
+use Rattle.messages.specs.Made.{blank_of, made_with}
 use Rattle.messages.proofs.get.Statement.{statement}
 use Rattle.messages.proofs.get.Tie as tie
 
 returns : tie.Need-returns
-unfolding madeWith blankOf
+unfolding made_with blank_of
 returns c = rw c.blank.ensures
 
 pub get_spec : {M : Type 1} → statement M

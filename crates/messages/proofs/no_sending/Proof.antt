@@ -5,5 +5,5 @@ use Rattle.messages.proofs.no_sending.Tie as tie
 returns : tie.Need-returns
 returns c = rw c.ack.ensures
 
-pub no-sending-spec : {M : Type 1} → statement M
-no-sending-spec = tie.close (tie.spec (λ c κs. tt) returns)
+pub no_sending_spec : {M : Type 1} → statement M
+no_sending_spec = tie.close (tie.spec (λ c κs. tt) returns)

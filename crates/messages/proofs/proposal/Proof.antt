@@ -1,11 +1,11 @@
 -- `messages::proposal` meets its contract. Assumes nothing.
-use Rattle.messages.specs.Made.{blankOf, madeWith}
+use Rattle.messages.specs.Made.{blank_of, made_with}
 use Rattle.messages.proofs.proposal.Statement.{statement}
 use Rattle.messages.proofs.proposal.Tie as tie
 
 returns : tie.Need-returns
-unfolding madeWith blankOf
+unfolding made_with blank_of
 returns c = rw c.blank.ensures
 
-pub proposal-spec : {M : Type 1} → statement M
-proposal-spec = tie.close (tie.spec (λ c κs. tt) returns)
+pub proposal_spec : {M : Type 1} → statement M
+proposal_spec = tie.close (tie.spec (λ c κs. tt) returns)

@@ -1,10 +1,10 @@
 -- `messages::put` meets its contract. Assumes nothing.
-use Rattle.messages.specs.Made.{blankOf, madeWith}
+use Rattle.messages.specs.Made.{blank_of, made_with}
 use Rattle.messages.proofs.put.Statement.{statement}
 use Rattle.messages.proofs.put.Tie as tie
 
 returns : tie.Need-returns
-unfolding madeWith blankOf
+unfolding made_with blank_of
 returns c = rw c.blank.ensures
 
 pub put_spec : {M : Type 1} → statement M

@@ -1,11 +1,11 @@
 -- `messages::request` meets its contract. Assumes nothing.
-use Rattle.messages.specs.Made.{blankOf, madeWith}
+use Rattle.messages.specs.Made.{blank_of, made_with}
 use Rattle.messages.proofs.request.Statement.{statement}
 use Rattle.messages.proofs.request.Tie as tie
 
 returns : tie.Need-returns
-unfolding madeWith blankOf
+unfolding made_with blank_of
 returns c = rw c.blank.ensures
 
-pub request-spec : {M : Type 1} → statement M
-request-spec = tie.close (tie.spec (λ c κs. tt) returns)
+pub request_spec : {M : Type 1} → statement M
+request_spec = tie.close (tie.spec (λ c κs. tt) returns)

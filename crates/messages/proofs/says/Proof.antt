@@ -6,5 +6,5 @@ use Rattle.messages.proofs.says.Tie as tie
 returns : tie.Need-returns
 returns c = refl
 
-pub says-spec : {M : Type 1} → statement M
-says-spec = tie.close (tie.spec returns)
+pub says_spec : {M : Type 1} → statement M
+says_spec = tie.close (tie.spec returns)

@@ -7,8 +7,8 @@ use lib.ListN.{length, take, drop, replicate, length-map}
 use borrow.Author.Rules.{rules}
 use Rattle.state.specs.declared.Sending.{Sending}
 use Rattle.state.specs.Plans.{most}
-use Rattle.messages.specs.Made.{toNobody, allSent}
-use Rattle.messages.proofs.Sent.{padded-take, shifted-more}
+use Rattle.messages.specs.Made.{to_nobody, all_sent}
+use Rattle.messages.proofs.Sent.{padded-take, shifted_more}
 use Rattle.messages.proofs.sent_before.Statement.{statement}
 use Rattle.messages.proofs.sent_before.Tie as tie
 
@@ -24,20 +24,20 @@ full c = sym (length-map c.args.t2.of _) ∙ c.well-formed.1.0.1.1.0.1.0.1
 loop-again : tie.Need-loop-preserved invariant-loop decreases-loop
 loop-again c =
     let at = c.before.before in
-    (omega arith, (omega arith, λ s e. shifted-more _ s _ _ _ _ (omega arith) (omega (arith, full at.before)) (omega arith) (at.loop.invariant.1.1 s e)))
+    (omega arith, (omega arith, λ s e. shifted_more _ s _ _ _ _ (omega arith) (omega (arith, full at.before)) (omega arith) (at.loop.invariant.1.1 s e)))
 
 returns : tie.Need-returns invariant-loop decreases-loop
-unfolding allSent
+unfolding all_sent
 returns c =
     let at = c.before.before in
     let i : c.before.loop.i ≡ most = omega arith in
     let first : Sending = at.args.s in
     let rest : List Sending = at.args.t2.of in
-    rw (c.before.loop.invariant.1.1 first refl, i, padded-take toNobody most (first ∷ rest) (omega (arith, full at)))
+    rw (c.before.loop.invariant.1.1 first refl, i, padded-take to_nobody most (first ∷ rest) (omega (arith, full at)))
     (ap (λ (l : List Sending). record { of = l }) (append-nil (take most (first ∷ rest))))
 
-pub sent-before-spec : {M : Type 1} → statement M
-sent-before-spec =
+pub sent_before_spec : {M : Type 1} → statement M
+sent_before_spec =
     tie.close
     (tie.spec
     invariant-loop

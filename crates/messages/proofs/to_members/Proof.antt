@@ -6,5 +6,5 @@ use Rattle.messages.proofs.to_members.Tie as tie
 returns : tie.Need-returns
 returns c = rw c.members.ensures
 
-pub to-members-spec : {M : Type 1} → statement M
-to-members-spec = tie.close (tie.spec (λ c κs. tt) (λ c. search rules) returns)
+pub to_members_spec : {M : Type 1} → statement M
+to_members_spec = tie.close (tie.spec (λ c κs. tt) (λ c. search rules) returns)

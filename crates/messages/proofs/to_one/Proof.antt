@@ -17,5 +17,5 @@ returns-2 c =
     let below : s < 16 = omega arith in
     rw (lt-ltb s 16 below, shl_exact {a = 1} 1 s 16 (omega arith) (omega arith), one-mul (2 ^ s))
 
-pub to-one-spec : {M : Type 1} → statement M
-to-one-spec = tie.close (tie.spec returns (λ c. search rules) returns-2)
+pub to_one_spec : {M : Type 1} → statement M
+to_one_spec = tie.close (tie.spec returns (λ c. search rules) returns-2)

@@ -1,11 +1,11 @@
 -- `messages::view` meets its contract. Assumes nothing.
-use Rattle.messages.specs.Made.{blankOf, madeWith}
+use Rattle.messages.specs.Made.{blank_of, made_with}
 use Rattle.messages.proofs.view.Statement.{statement}
 use Rattle.messages.proofs.view.Tie as tie
 
 returns : tie.Need-returns
-unfolding madeWith blankOf
+unfolding made_with blank_of
 returns c = rw c.blank.ensures
 
-pub view-spec : {M : Type 1} → statement M
-view-spec = tie.close (tie.spec (λ c κs. tt) returns)
+pub view_spec : {M : Type 1} → statement M
+view_spec = tie.close (tie.spec (λ c κs. tt) returns)

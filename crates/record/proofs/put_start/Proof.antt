@@ -2,7 +2,7 @@
 use mathlib.Core.Path.{refl}
 use native.Mathlib.Omega.{arith}
 use borrow.Author.Rules.{rules}
-use Rattle.record.proofs.Laying.{printed-first, printed-then, printed-as}
+use Rattle.record.proofs.Laying.{printed-first, printed_then, printed_as}
 use Rattle.record.proofs.put_start.Statement.{statement}
 use Rattle.record.proofs.put_start.Tie as tie
 
@@ -10,7 +10,7 @@ returns : tie.Need-returns
 returns c =
     let line = c.before.before in
     let word = line.before.before.before.before.before in
-    printed-as _ refl (printed-then _ _ (printed-first _ word.put_word.ensures) (omega arith) line.put-line.ensures)
+    printed_as _ refl (printed_then _ _ (printed-first _ word.put_word.ensures) (omega arith) line.put-line.ensures)
 
-pub put-start-spec : {M : Type 1} → statement M
-put-start-spec = tie.close (tie.spec (λ c. search rules) (λ c κs. search rules) (λ c. search rules) (λ c κs. search rules) (λ c. search rules) returns)
+pub put_start_spec : {M : Type 1} → statement M
+put_start_spec = tie.close (tie.spec (λ c. search rules) (λ c κs. search rules) (λ c. search rules) (λ c κs. search rules) (λ c. search rules) returns)

@@ -5,15 +5,15 @@ use native.Mathlib.Omega.{arith}
 use lib.ListN.{length, get_or, replicate, length-replicate}
 use borrow.Author.Rules.{rules}
 use Rattle.rules.specs.State.{start}
-use Rattle.rules.specs.Runs.{outcomes, lastWorld}
-use Rattle.rules.proofs.Counts.{run-few}
+use Rattle.rules.specs.Runs.{outcomes, last_world}
+use Rattle.rules.proofs.Counts.{run_few}
 use Rattle.layout.specs.Image.{image}
-use Rattle.sheet.specs.Reading.{stepsFrom}
+use Rattle.sheet.specs.Reading.{steps_from}
 use Rattle.record.specs.Lines.{far}
-use Rattle.world.specs.Tracing.{traceRows}
-use Rattle.world.proofs.Tracing.{shown-few}
+use Rattle.world.specs.Tracing.{trace_rows}
+use Rattle.world.proofs.Tracing.{shown_few}
 use Rattle.rehearsal.specs.Playing.{Begins}
-use Rattle.rehearsal.proofs.Playing.{trace-runs, played}
+use Rattle.rehearsal.proofs.Playing.{trace_runs, played}
 use Rattle.rehearsal.proofs.play.Statement.{statement}
 use Rattle.rehearsal.proofs.play.Tie as tie
 
@@ -30,27 +30,27 @@ zeros n = sym (length-replicate n 0)
 -- what the trace left: the last world, and the rows
 ran : (c : tie.After-trace) →
     let b = c.before.before.before.before.before.before.args.sheet.now in
-    (c.trace.new.1.0 ≡ image (lastWorld (start (get_or b 5 0)) (stepsFrom b 6)))
-    × Begins c.trace.new.1.1.0 (traceRows (outcomes (start (get_or b 5 0)) (stepsFrom b 6)))
+    (c.trace.new.1.0 ≡ image (last_world (start (get_or b 5 0)) (steps_from b 6)))
+    × Begins c.trace.new.1.1.0 (trace_rows (outcomes (start (get_or b 5 0)) (steps_from b 6)))
 ran c =
     let s = c.before.before.before.before.before.before in
     let b = s.args.sheet.now in
-    trace-runs b (get_or b 5 0) s.requires.1.0 refl s.args.w.now (replicate 80000 0) c.trace.new.1.0 c.trace.new.1.1.0 s.requires.0
+    trace_runs b (get_or b 5 0) s.requires.1.0 refl s.args.w.now (replicate 80000 0) c.trace.new.1.0 c.trace.new.1.1.0 s.requires.0
     (omega (arith, zeros 80000)) c.trace.ensures.1
 
-put-rows-requires : tie.Need-put-rows-requires
-put-rows-requires c κs =
+put_rows_requires : tie.Need-put-rows-requires
+put_rows_requires c κs =
     let traced = c.before.before.before.before.before.before.before.before.before in
     (traced.before.before.before.before.before.before.requires.1.0, (ran traced).1)
 
-put-totals-requires : tie.Need-put-totals-requires
-put-totals-requires c κs =
+put_totals_requires : tie.Need-put-totals-requires
+put_totals_requires c κs =
     let lined = c.before.before.before.before in
     let s = lined.before.before.before.before.before.before.before.before.before.before.before.before.before.before.before.before in
     let b = s.args.sheet.now in
-    let most = shown-few b s.requires.1.0 in (
-      omega (arith, lined.put-rows.ensures.delivered, run-few (start (get_or b 5 0)) (stepsFrom b 6), most),
-      omega (arith, lined.put-rows.ensures.dropped, run-few (start (get_or b 5 0)) (stepsFrom b 6), most),
+    let most = shown_few b s.requires.1.0 in (
+      omega (arith, lined.put-rows.ensures.delivered, run_few (start (get_or b 5 0)) (steps_from b 6), most),
+      omega (arith, lined.put-rows.ensures.dropped, run_few (start (get_or b 5 0)) (steps_from b 6), most),
     )
 
 returns : tie.Need-returns
@@ -70,16 +70,16 @@ returns c =
     put.put-totals.ensures.0 put.put-totals.ensures.1 in
     (p.0, (p.1, is))
 
-pub play-spec : {M : Type 1} → statement M
-play-spec =
+pub play_spec : {M : Type 1} → statement M
+play_spec =
     tie.close
     (tie.spec
     (λ c. zeros 80000)
     (λ c κs. tt)
     (λ c κs. tt)
     (λ c. search rules)
-    put-rows-requires
-    put-totals-requires
+    put_rows_requires
+    put_totals_requires
     (λ c. search rules)
     (λ c. search rules)
     returns)

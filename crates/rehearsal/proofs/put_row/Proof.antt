@@ -19,8 +19,8 @@ returns c =
     desk.byte-at4.ensures last.read_u32.ensures)
     put.put_step.ensures
 
-pub put-row-spec : {M : Type 1} → statement M
-put-row-spec =
+pub put_row_spec : {M : Type 1} → statement M
+put_row_spec =
     tie.close
     (tie.spec
     (λ c. search rules) (λ c κs. tt) (λ c. search rules) (λ c κs. tt) (λ c. search rules) (λ c κs. tt) (λ c. search rules) (λ c κs. tt)

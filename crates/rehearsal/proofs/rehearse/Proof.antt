@@ -2,8 +2,8 @@
 use Prim.Native.Nat.{◌≤◌, ◌<◌}
 use native.Mathlib.Omega.{arith}
 use borrow.Author.Rules.{rules}
-use Rattle.world.proofs.Tracing.{found-facts, few-found}
-use Rattle.rehearsal.proofs.Playing.{misfit, left-bad, left-full, left-good}
+use Rattle.world.proofs.Tracing.{found_facts, few_found}
+use Rattle.rehearsal.proofs.Playing.{misfit, left-bad, left-full, left_good}
 use Rattle.rehearsal.proofs.rehearse.Statement.{statement}
 use Rattle.rehearsal.proofs.rehearse.Tie as tie
 
@@ -26,7 +26,7 @@ returns-2 c =
 few : (c : tie.After-struct-known) → c.before.before.check.result.steps ≤ 8000
 few c =
     let check = c.before.before in
-    few-found check.before.before.before.before.before.args.sheet.now check.check.result check.check.ensures c.before.if2.false
+    few_found check.before.before.before.before.before.args.sheet.now check.check.result check.check.ensures c.before.if2.false
 
 small : (c : tie.After-struct-known) → c.before.before.check.result.mask < 256
 small c = search rules
@@ -45,13 +45,13 @@ returns-3 c =
     let a = fits.before.before.before.before.args in
     left-full a.sheet.now a.world.now a.out.now fits.if1.false check.check.result check.check.ensures good.if2.false c.if3.true
 
-play-requires : tie.Need-play-requires
-play-requires c κs =
+play_requires : tie.Need-play-requires
+play_requires c κs =
     let good = c.before.before.before.before in
     let check = good.before in
     let fits = check.before in
     let a = fits.before.before.before.before.args in
-    (fits.if1.false, found-facts a.sheet.now check.check.result check.check.ensures good.if2.false)
+    (fits.if1.false, found_facts a.sheet.now check.check.result check.check.ensures good.if2.false)
 
 returns-4 : tie.Need-returns-4
 returns-4 c =
@@ -61,11 +61,11 @@ returns-4 c =
     let check = good.before in
     let fits = check.before in
     let a = fits.before.before.before.before.args in
-    left-good a.sheet.now a.world.now a.out.now fits.if1.false check.check.result check.check.ensures good.if2.false
+    left_good a.sheet.now a.world.now a.out.now fits.if1.false check.check.result check.check.ensures good.if2.false
     roomy.if3.false (small roomy.before) _ _ play.play.result play.play.ensures
 
-pub rehearse-spec : {M : Type 1} → statement M
-rehearse-spec =
+pub rehearse_spec : {M : Type 1} → statement M
+rehearse_spec =
     tie.close
     (tie.spec
     returns
@@ -76,7 +76,7 @@ rehearse-spec =
     mul-if3
     add-if3
     returns-3
-    play-requires
+    play_requires
     (λ c. search rules)
     (λ c. search rules)
     returns-4)

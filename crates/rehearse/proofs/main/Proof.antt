@@ -10,17 +10,17 @@ use borrow.Author.Rules.{rules}
 use Rattle.rules.specs.Runs.{rehearsed}
 use Rattle.rules.proofs.Longest.{longest-is}
 use Rattle.rehearsal.specs.declared.Rehearsed.{Rehearsed}
-use Rattle.rehearsal.specs.Playing.{rehearseAnswer, recordLeft}
-use Rattle.rehearsal.proofs.Playing.{whole-record}
+use Rattle.rehearsal.specs.Playing.{rehearse_answer, record_left}
+use Rattle.rehearsal.proofs.Playing.{whole_record}
 use Rattle.rehearse.proofs.main.Statement.{statement}
 use Rattle.rehearse.proofs.main.Tie as tie
 
 -- the first bytes of the buffer that is left, as many as are told, are the record
-module _ (b w out : List ℕ) (r : Rehearsed) (l : List ℕ) (answer : r ≡ rehearseAnswer b w out) (printed : l ≡ recordLeft b w out)
+module _ (b w out : List ℕ) (r : Rehearsed) (l : List ℕ) (answer : r ≡ rehearse_answer b w out) (printed : l ≡ record_left b w out)
     (long : length w ≡ 65536) (wide : length out ≡ 240033) where
   whole : (r.length ≡ length (rehearsed b)) × (l ≡ rehearsed b ++ drop (length (rehearsed b)) out)
   whole =
-      let h = whole-record b w out long (omega (arith, wide, longest-is 8000)) in
+      let h = whole_record b w out long (omega (arith, wide, longest-is 8000)) in
       (ap (λ (x : Rehearsed). x.length) answer ∙ h.0, printed ∙ h.1)
 
   handed : take r.length l ≡ rehearsed b

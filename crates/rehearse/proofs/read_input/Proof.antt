@@ -13,8 +13,8 @@ invariant-loop buffer₀ done₀ buffer done = (length buffer ≡ length buffer�
 abbrev decreases-loop : tie.decreases-loop
 decreases-loop buffer₀ done₀ buffer done = length buffer - done
 
-pub read-input-spec : {M : Type 1} → statement M
-read-input-spec =
+pub read_input_spec : {M : Type 1} → statement M
+read_input_spec =
     tie.close
     (tie.spec
     invariant-loop

@@ -3,10 +3,10 @@ use mathlib.Core.Path.{refl, sym, ◌∙◌}
 use native.Mathlib.Omega.{arith}
 use borrow.Author.Tests.{eq-eqb, ne_eqb, lt-ltb, le-ltb, not-true, not-false}
 use Rattle.rules.specs.Messages.{bad-step}
-use Rattle.rules.specs.State.{withPending}
-use Rattle.rules.specs.Relays.{requestHeard}
-use Rattle.state.specs.Meaning.{relayOf, part_of}
-use Rattle.messages.proofs.Made.{none, made-says, sent-says}
+use Rattle.rules.specs.State.{with_pending}
+use Rattle.rules.specs.Relays.{request_heard}
+use Rattle.state.specs.Meaning.{relay_of, part_of}
+use Rattle.messages.proofs.Made.{none, made_says, sent_says}
 use Rattle.relay.proofs.request_heard.Statement.{statement}
 use Rattle.relay.proofs.request_heard.Tie as tie
 
@@ -14,7 +14,7 @@ returns : tie.Need-returns
 returns c = c.refuses.ensures bad-step refl ∙ rw (le-ltb c.before.before.args.from 12 c.before.if1.true)
 
 returns-2 : tie.Need-returns-2
-unfolding requestHeard part_of relayOf
+unfolding request_heard part_of relay_of
 returns-2 c =
     let c3 = c.before.before.before in
     c.quietly.ensures ∙ rw (
@@ -23,12 +23,12 @@ returns-2 c =
     )
 
 returns-3 : tie.Need-returns-3
-unfolding requestHeard part_of relayOf
+unfolding request_heard part_of relay_of
 returns-3 c =
     let c2 = c.before.before in
     let c6 = c2.before.before.before.before in
     c.sends.ensures ∙ rw (
-      sent-says c.before.to_one.ensures (made-says _ _ c2.view.ensures none),
+      sent_says c.before.to_one.ensures (made_says _ _ c2.view.ensures none),
       lt-ltb c6.before.args.from 16 (omega (arith, c6.if1.false)),
       lt-ltb c6.before.args.from 12 c6.if1.false,
       not-false c6.before.args.p.head.entered c2.before.before.if2.false,
@@ -36,7 +36,7 @@ returns-3 c =
     )
 
 returns-4 : tie.Need-returns-4
-unfolding requestHeard part_of relayOf
+unfolding request_heard part_of relay_of
 returns-4 c =
     let c2 = c.before.before in
     let c6 = c2.before.before.before.before in
@@ -48,7 +48,7 @@ returns-4 c =
     )
 
 returns-5 : tie.Need-returns-5
-unfolding requestHeard part_of relayOf withPending
+unfolding request_heard part_of relay_of with_pending
 returns-5 c =
     let c2 = c.before.before in
     let c5 = c2.before.before.before in
@@ -61,5 +61,5 @@ returns-5 c =
       sym c2.before.before.within.ensures ∙ c2.before.if4.false,
     )
 
-pub request-heard-spec : {M : Type 1} → statement M
-request-heard-spec = tie.close (tie.spec (λ c κs. tt) returns (λ c κs. tt) returns-2 (λ c κs. tt) (λ c κs. tt) (λ c κs. tt) returns-3 (λ c κs. tt) (λ c κs. tt) returns-4 (λ c κs. tt) (λ c κs. tt) returns-5)
+pub request_heard_spec : {M : Type 1} → statement M
+request_heard_spec = tie.close (tie.spec (λ c κs. tt) returns (λ c κs. tt) returns-2 (λ c κs. tt) (λ c κs. tt) (λ c κs. tt) returns-3 (λ c κs. tt) (λ c κs. tt) returns-4 (λ c κs. tt) (λ c κs. tt) returns-5)

@@ -2,8 +2,8 @@
 use mathlib.Core.Path.{refl, sym, ◌∙◌}
 use borrow.Author.Tests.{lt-ltb, le-ltb, not-true, not-false}
 use Rattle.rules.specs.Messages.{bad-step}
-use Rattle.rules.specs.Relays.{stateHeard}
-use Rattle.state.specs.Meaning.{relayOf, part_of}
+use Rattle.rules.specs.Relays.{state_heard}
+use Rattle.state.specs.Meaning.{relay_of, part_of}
 use Rattle.relay.proofs.Laws.{gathered-pair}
 use Rattle.relay.proofs.state_heard.Statement.{statement}
 use Rattle.relay.proofs.state_heard.Tie as tie
@@ -20,7 +20,7 @@ returns-2 c =
     )
 
 returns-3 : tie.Need-returns-3
-unfolding stateHeard part_of relayOf
+unfolding state_heard part_of relay_of
 returns-3 c =
     let c2 = c.before.before in
     let c5 = c2.before.before.before in
@@ -30,11 +30,11 @@ returns-3 c =
       sym c2.inside.ensures ∙ not-true _ c.before.if3.true,
     )
 
-gathers-requires : tie.Need-gathers-requires
-gathers-requires c κs = c.before.before.before.before.before.if1.false
+gathers_requires : tie.Need-gathers-requires
+gathers_requires c κs = c.before.before.before.before.before.if1.false
 
-tested-requires : tie.Need-tested-requires
-tested-requires c κs =
+tested_requires : tie.Need-tested-requires
+tested_requires c κs =
     let c4 = c.before.before.before.before in
     let c7 = c4.before.before.before in
     let a = c7.args in
@@ -42,7 +42,7 @@ tested-requires c κs =
     rw (x.0, x.1) (sym c4.before.shows.ensures ∙ not-false _ c4.if2.false)
 
 returns-4 : tie.Need-returns-4
-unfolding stateHeard part_of relayOf
+unfolding state_heard part_of relay_of
 returns-4 c =
     let c2 = c.before.before in
     let c5 = c2.before.before.before in
@@ -55,5 +55,5 @@ returns-4 c =
       sym c2.before.before.inside.ensures ∙ not-false _ c2.before.if3.false,
     )
 
-pub state-heard-spec : {M : Type 1} → statement M
-state-heard-spec = tie.close (tie.spec (λ c κs. tt) returns (λ c κs. tt) (λ c κs. tt) returns-2 (λ c κs. tt) (λ c κs. tt) returns-3 (λ c κs. tt) gathers-requires tested-requires returns-4)
+pub state_heard_spec : {M : Type 1} → statement M
+state_heard_spec = tie.close (tie.spec (λ c κs. tt) returns (λ c κs. tt) (λ c κs. tt) returns-2 (λ c κs. tt) (λ c κs. tt) returns-3 (λ c κs. tt) gathers_requires tested_requires returns-4)

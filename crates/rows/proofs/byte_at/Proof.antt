@@ -8,5 +8,5 @@ use Rattle.rows.proofs.byte_at.Tie as tie
 returns : tie.Need-returns
 returns c = sym (get_or-eq_default c.before.args.s.now 0 c.if1.true)
 
-pub byte-at-spec : {M : Type 1} → statement M
-byte-at-spec = tie.close (tie.spec returns (λ c. search rules) (λ c. search rules))
+pub byte_at_spec : {M : Type 1} → statement M
+byte_at_spec = tie.close (tie.spec returns (λ c. search rules) (λ c. search rules))

@@ -7,7 +7,7 @@ use borrow.Author.Rules.{rules}
 use borrow.Author.Tests.{leb-false, lt-leb, not-true}
 use Rattle.rows.specs.Bytes.{sum}
 use Rattle.rows.proofs.Laws.{room}
-use Rattle.rows.proofs.Numbers.{Ends, ends-none, ends_more, ends-inside, ends-all}
+use Rattle.rows.proofs.Numbers.{Ends, ends_none, ends_more, ends_inside, ends_all}
 use Rattle.rows.proofs.fields_fit.Statement.{statement}
 use Rattle.rows.proofs.fields_fit.Tie as tie
 
@@ -26,7 +26,7 @@ returns c =
     let byte = c.before.before in
     let turn = byte.before in
     let a = turn.before.before.before.args in
-    let inside = ends-inside turn.before.loop.invariant turn.loop-test.true byte.byte_at.ensures in
+    let inside = ends_inside turn.before.loop.invariant turn.loop-test.true byte.byte_at.ensures in
     sym (lt-leb (a.at + sum a.widths.now) a.len (omega (arith, past c)))
 
 space : (c : tie.Else1 invariant-loop decreases-loop) → let w = c.before.before in
@@ -43,10 +43,10 @@ loop-again c =
     ends_more turn.before.loop.invariant turn.loop-test.true byte.byte_at.ensures
 
 returns-2 : tie.Need-returns-2 invariant-loop decreases-loop
-returns-2 c = rw (ends-all c.before.loop.invariant c.loop-test.false)
+returns-2 c = rw (ends_all c.before.loop.invariant c.loop-test.false)
 
-pub fields-fit-spec : {M : Type 1} → statement M
-fields-fit-spec =
+pub fields_fit_spec : {M : Type 1} → statement M
+fields_fit_spec =
     tie.close
-    (tie.spec invariant-loop decreases-loop (λ c. ends-none) (λ c κs. search rules) (λ c. search rules) (λ c κs. search rules) returns add-end (λ c. search rules)
+    (tie.spec invariant-loop decreases-loop (λ c. ends_none) (λ c κs. search rules) (λ c. search rules) (λ c κs. search rules) returns add-end (λ c. search rules)
     (λ c. search rules) loop-again returns-2)

@@ -21,5 +21,5 @@ returns c = sym (lt-leb (c.before.args.at + c.before.args.n) c.before.args.len (
 returns-2 : tie.Need-returns-2
 returns-2 c = moved _ _ _ c.if1.false
 
-pub has-room-spec : {M : Type 1} → statement M
-has-room-spec = tie.close (tie.spec returns returns-2)
+pub has_room_spec : {M : Type 1} → statement M
+has_room_spec = tie.close (tie.spec returns returns-2)

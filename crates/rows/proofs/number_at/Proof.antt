@@ -8,5 +8,5 @@ use Rattle.rows.proofs.number_at.Tie as tie
 returns : tie.Need-returns
 returns c = sym (get_or-eq_default c.before.args.xs.now 0 c.if1.true)
 
-pub number-at-spec : {M : Type 1} → statement M
-number-at-spec = tie.close (tie.spec returns (λ c. search rules) (λ c. search rules) (λ c. search rules))
+pub number_at_spec : {M : Type 1} → statement M
+number_at_spec = tie.close (tie.spec returns (λ c. search rules) (λ c. search rules) (λ c. search rules))

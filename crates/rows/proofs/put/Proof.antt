@@ -7,8 +7,8 @@ use native.Mathlib.Omega.{arith}
 use lib.ListN.{length}
 use borrow.Author.Rules.{rules}
 use Rattle.rows.specs.Bytes.{placed, bytes_of}
-use Rattle.rows.proofs.Laws.{placed-length, placed-nil, placed-before, room, no_room}
-use Rattle.rows.proofs.Numbers.{length-bytesOf}
+use Rattle.rows.proofs.Laws.{placed-length, placed_nil, placed-before, room, no_room}
+use Rattle.rows.proofs.Numbers.{length-bytes_of}
 use Rattle.rows.proofs.put.Statement.{statement}
 use Rattle.rows.proofs.put.Tie as tie
 
@@ -24,7 +24,7 @@ unfolding bytes_of
 left_less {i = zero} t h p fit e = absurd (omega arith)
 left_less {l₀} {o} {n} {x} {l} {y} {i = suc j} t h p fit e =
     let less : suc j - 1 ≡ j = omega arith in
-    let wide : length (bytes_of j (y / 256)) ≡ j = length-bytesOf j (y / 256) in
+    let wide : length (bytes_of j (y / 256)) ≡ j = length-bytes_of j (y / 256) in
     let before = placed-before l (bytes_of j (y / 256)) (y % 256 ∷ []) o (omega (arith, h.long, h.within)) in
     record {
       within = omega (arith, h.within);
@@ -34,7 +34,7 @@ left_less {l₀} {o} {n} {x} {l} {y} {i = suc j} t h p fit e =
 
 left-none : {l₀ : List ℕ} {o n x : ℕ} {l : List ℕ} {y i : ℕ} → Left l₀ o n x l y i → i ≤ 0 → l ≡ placed l₀ o (bytes_of n x)
 unfolding bytes_of
-left-none {o = o} {l = l} {i = zero} h p = sym (placed-nil l o) ∙ h.is
+left-none {o = o} {l = l} {i = zero} h p = sym (placed_nil l o) ∙ h.is
 left-none {i = suc j} h p = absurd (omega arith)
 
 abbrev invariant-loop : tie.invariant-loop
@@ -47,7 +47,7 @@ space : (c : tie.Else1 invariant-loop decreases-loop) → let a = c.before.befor
 space c = room c.before.has_room.ensures c.if1.false
 
 returns : tie.Need-returns invariant-loop decreases-loop
-returns c = no_room _ _ _ (length-bytesOf _ _) c.before.has_room.ensures c.if1.true
+returns c = no_room _ _ _ (length-bytes_of _ _) c.before.has_room.ensures c.if1.true
 
 loop-holds : tie.Need-loop-init invariant-loop decreases-loop
 loop-holds c = record { within = omega arith; long = refl; is = refl }

@@ -9,12 +9,12 @@ use lib.Bits.{bit_or, or_add_and, and_le_l, and_le_r}
 use lib.Dec.{eqb}
 use borrow.Author.Rules.{rules}
 use borrow.Author.Tests.{eq-eqb, ne_eqb}
-use Rattle.rows.specs.Tests.{all, allZero}
+use Rattle.rows.specs.Tests.{all, all_zero}
 use Rattle.rows.proofs.zero_eight.Statement.{statement}
 use Rattle.rows.proofs.zero_eight.Tie as tie
 
-or-zero : (a b : ℕ) → eqb (bit_or a b) 0 ≡ (eqb a 0 && eqb b 0)
-or-zero a b = go (ℕ_discrete a 0) (ℕ_discrete b 0)
+or_zero : (a b : ℕ) → eqb (bit_or a b) 0 ≡ (eqb a 0 && eqb b 0)
+or_zero a b = go (ℕ_discrete a 0) (ℕ_discrete b 0)
   where
     go : Dec (a ≡ 0) → Dec (b ≡ 0) → eqb (bit_or a b) 0 ≡ (eqb a 0 && eqb b 0)
     go (yes p) (yes q) = rw (eq-eqb a 0 p, eq-eqb b 0 q) (eq-eqb (bit_or a b) 0 (omega (arith, or_add_and a b)))
@@ -22,8 +22,8 @@ or-zero a b = go (ℕ_discrete a 0) (ℕ_discrete b 0)
     go (no p) d = rw (ne_eqb a 0 p) (ne_eqb (bit_or a b) 0 (λ z. omega (arith, or_add_and a b, and_le_r a b)))
 
 returns : tie.Need-returns
-unfolding all allZero
-returns c = simp (or-zero, add-zero)
+unfolding all all_zero
+returns c = simp (or_zero, add-zero)
 
-pub zero-eight-spec : {M : Type 1} → statement M
-zero-eight-spec = tie.close (tie.spec (λ c. search rules) (λ c. search rules) (λ c. search rules) (λ c. search rules) (λ c. search rules) (λ c. search rules) (λ c. search rules) (λ c. search rules) (λ c. search rules) (λ c. search rules) (λ c. search rules) (λ c. search rules) (λ c. search rules) (λ c. search rules) (λ c. search rules) returns)
+pub zero_eight_spec : {M : Type 1} → statement M
+zero_eight_spec = tie.close (tie.spec (λ c. search rules) (λ c. search rules) (λ c. search rules) (λ c. search rules) (λ c. search rules) (λ c. search rules) (λ c. search rules) (λ c. search rules) (λ c. search rules) (λ c. search rules) (λ c. search rules) (λ c. search rules) (λ c. search rules) (λ c. search rules) (λ c. search rules) returns)

@@ -24,5 +24,5 @@ returns-2 : tie.Need-returns-2
 unfolding form_of
 returns-2 c = sym (after_none _ _ (leb-false _ _ (sym c.before.has_room.ensures ∙ c.if1.false)))
 
-pub after-spec : {M : Type 1} → statement M
-after-spec = tie.close (tie.spec (λ c κs. search rules) add-result returns returns-2)
+pub after_spec : {M : Type 1} → statement M
+after_spec = tie.close (tie.spec (λ c κs. search rules) add-result returns returns-2)

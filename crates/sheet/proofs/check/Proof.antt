@@ -4,12 +4,12 @@ use native.Mathlib.Omega.{arith}
 use borrow.Author.Rules.{rules}
 use borrow.Author.Tests.{not-true, not-false}
 use Rattle.rules.specs.Sheets.{form_of}
-use Rattle.sheet.proofs.Checking.{bad-short, bad-mark, bad-version, bad-mask, bad-part, bad-bytes, bad-many, accepts}
+use Rattle.sheet.proofs.Checking.{bad_short, bad-mark, bad-version, bad_mask, bad_part, bad_bytes, bad_many, accepts}
 use Rattle.sheet.proofs.check.Statement.{statement}
 use Rattle.sheet.proofs.check.Tie as tie
 
 returns : tie.Need-returns
-returns c = bad-short _ (omega arith)
+returns c = bad_short _ (omega arith)
 
 returns-2 : tie.Need-returns-2
 returns-2 c = bad-mark _ (sym c.before.is-marked.ensures ∙ not-true _ c.if2.true)
@@ -19,19 +19,19 @@ unfolding form_of
 returns-3 c = bad-version _ (λ z. c.if3.true (c.before.read-u16.ensures ∙ z))
 
 returns-4 : tie.Need-returns-4
-returns-4 c = bad-mask _ (omega (arith, c.before.byte_at.ensures))
+returns-4 c = bad_mask _ (omega (arith, c.before.byte_at.ensures))
 
 returns-5 : tie.Need-returns-5
 unfolding form_of
-returns-5 c = bad-part _ (λ z. c.if5.true (omega arith))
+returns-5 c = bad_part _ (λ z. c.if5.true (omega arith))
 
 returns-6 : tie.Need-returns-6
 unfolding form_of
-returns-6 c = bad-bytes _ (sym c.before.is-blank.ensures ∙ not-true _ c.if6.true)
+returns-6 c = bad_bytes _ (sym c.before.is-blank.ensures ∙ not-true _ c.if6.true)
 
 returns-7 : tie.Need-returns-7
 unfolding form_of
-returns-7 c = bad-many _ (omega arith)
+returns-7 c = bad_many _ (omega arith)
 
 returns-8 : tie.Need-returns-8
 unfolding form_of
@@ -50,8 +50,8 @@ returns-8 c =
     (sym c2.is-blank.ensures ∙ not-false _ c1.if6.false)
     (omega arith)
 
-pub check-spec : {M : Type 1} → statement M
-check-spec =
+pub check_spec : {M : Type 1} → statement M
+check_spec =
     tie.close
     (tie.spec
     returns (λ c κs. search rules) returns-2 (λ c κs. search rules) returns-3 (λ c κs. search rules) returns-4 (λ c. search rules) returns-5 (λ c. search rules)

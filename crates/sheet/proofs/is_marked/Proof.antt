@@ -13,7 +13,7 @@ returns c =
     let c1 = c2.before in
     λ i. eqb (c1.byte_at.ensures i) (get_or mark 0 0) && eqb (c2.byte-at2.ensures i) (get_or mark 1 0) && eqb (c.byte-at3.ensures i) (get_or mark 2 0)
 
-pub is-marked-spec : {M : Type 1} → statement M
-is-marked-spec =
+pub is_marked_spec : {M : Type 1} → statement M
+is_marked_spec =
     tie.close
     (tie.spec (λ c κs. search rules) (λ c. search rules) (λ c κs. search rules) (λ c. search rules) (λ c κs. search rules) (λ c. search rules) returns)

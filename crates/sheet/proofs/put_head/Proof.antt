@@ -14,8 +14,8 @@ returns c =
     let small : mask % 256 ≡ mask = omega arith in
     rw small at c.before.before.put-fields.ensures
 
-pub put-head-spec : {M : Type 1} → statement M
-put-head-spec =
+pub put_head_spec : {M : Type 1} → statement M
+put_head_spec =
     tie.close
     (tie.spec
     (λ c. search rules) (λ c. search rules) (λ c. search rules) (λ c. search rules) (λ c. search rules) (λ c. search rules) (λ c. search rules)

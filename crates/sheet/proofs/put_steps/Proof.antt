@@ -5,7 +5,7 @@ use lib.ListN.{length}
 use borrow.Author.Rules.{rules}
 use Rattle.rules.specs.Sheets.{version1}
 use Rattle.sheet.specs.Writing.{listed}
-use Rattle.sheet.proofs.Writing.{listed-length, Left, left-all, left-more, left-none}
+use Rattle.sheet.proofs.Writing.{listed-length, Left, left-all, left_more, left-none}
 use Rattle.sheet.proofs.put_steps.Statement.{statement}
 use Rattle.sheet.proofs.put_steps.Tie as tie
 
@@ -40,10 +40,10 @@ loop-again c =
     let wrote = c.before.before in
     let turn = wrote.before.before.before.before.before in
     let start = turn.before.before.before.before.before.before in
-    left-more _ _ _ _ turn.before.loop.invariant (omega (arith, start.requires.0)) (omega (arith, start.requires.0)) wrote.put_step.ensures
+    left_more _ _ _ _ turn.before.loop.invariant (omega (arith, start.requires.0)) (omega (arith, start.requires.0)) wrote.put_step.ensures
 
 returns : tie.Need-returns invariant-loop decreases-loop
 returns c = left-none c.before.loop.invariant (omega (arith, c.before.before.before.before.before.before.requires.0))
 
-pub put-steps-spec : {M : Type 1} → statement M
-put-steps-spec = tie.close (tie.spec invariant-loop decreases-loop loop-holds shared-slice-read-t11 shared-slice-read-t13 (λ c. search rules) shared-slice-read-t16 (λ c κs. search rules) (λ c. search rules) (λ c. search rules) (λ c. search rules) loop-again (λ c. search rules) returns)
+pub put_steps_spec : {M : Type 1} → statement M
+put_steps_spec = tie.close (tie.spec invariant-loop decreases-loop loop-holds shared-slice-read-t11 shared-slice-read-t13 (λ c. search rules) shared-slice-read-t16 (λ c κs. search rules) (λ c. search rules) (λ c. search rules) (λ c. search rules) loop-again (λ c. search rules) returns)

@@ -8,7 +8,7 @@ use borrow.Author.Tests.{leb-false, not-true}
 use Rattle.rows.proofs.Laws.{room}
 use Rattle.rules.specs.Sheets.{version1, form_of, value_at}
 use Rattle.sheet.specs.declared.Found.TheVariants.{At}
-use Rattle.sheet.proofs.Reading.{step-none, step-some, kind_at, id-at, number-at}
+use Rattle.sheet.proofs.Reading.{step-none, step-some, kind_at, id_at, number_at_lem}
 use Rattle.sheet.proofs.step_at.Statement.{statement}
 use Rattle.sheet.proofs.step_at.Tie as tie
 
@@ -32,9 +32,9 @@ returns-2 c =
     let c2 = c1.before in
     let a = c2.before.before.before.before.args in
     let kind = c2.byte_at.ensures ∙ kind_at a.b.now a.at in
-    let id = c1.byte-at2.ensures ∙ id-at a.b.now a.at in
-    let value = c.read_u32.ensures ∙ number-at a.b.now a.at version1.valueBytes (value_at version1) in
+    let id = c1.byte-at2.ensures ∙ id_at a.b.now a.at in
+    let value = c.read_u32.ensures ∙ number_at_lem a.b.now a.at version1.value_bytes (value_at version1) in
     (λ i. At (record { kind = kind i; id = id i; value = value i })) ∙ sym (step-some _ _ (space c2.before))
 
-pub step-at-spec : {M : Type 1} → statement M
-step-at-spec = tie.close (tie.spec (λ c κs. search rules) returns (λ c κs. search rules) add-byte-at (λ c κs. search rules) add-read-u32 (λ c κs. search rules) returns-2)
+pub step_at_spec : {M : Type 1} → statement M
+step_at_spec = tie.close (tie.spec (λ c κs. search rules) returns (λ c κs. search rules) add-byte-at (λ c κs. search rules) add-read-u32 (λ c κs. search rules) returns-2)

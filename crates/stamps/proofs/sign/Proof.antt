@@ -17,5 +17,5 @@ returns-3 : tie.Need-returns-3
 unfolding sign_of
 returns-3 c = simp (le-ltb _ _ c.before.if1.false, le-ltb _ _ c.if2.false) (search rules)
 
-pub sign-spec : {M : Type 1} → statement M
-sign-spec = tie.close (tie.spec returns returns-2 returns-3)
+pub sign_spec : {M : Type 1} → statement M
+sign_spec = tie.close (tie.spec returns returns-2 returns-3)

@@ -4,13 +4,13 @@ use Prim.Native.Nat.{min}
 use native.Mathlib.Omega.{arith}
 use lib.ListN.{length}
 use borrow.Author.Rules.{rules}
-use Rattle.views.specs.Row.{viewsOf}
-use Rattle.views.proofs.Rows.{views-length}
+use Rattle.views.specs.Row.{views_of}
+use Rattle.views.proofs.Rows.{views_length}
 use Rattle.views.proofs.count.Statement.{statement}
 use Rattle.views.proofs.count.Tie as tie
 
-counted : (s : tie.Start) → length (viewsOf s.args.q) ≡ min s.args.q.len 15
-counted s = views-length s.args.q (search rules)
+counted : (s : tie.Start) → length (views_of s.args.q) ≡ min s.args.q.len 15
+counted s = views_length s.args.q (search rules)
 
 returns : tie.Need-returns
 returns c = omega (arith, counted c.before.before)

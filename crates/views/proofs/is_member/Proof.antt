@@ -5,7 +5,7 @@ use native.Mathlib.Nat.{div-eq_of_lt, pow-le-pow_right, lt_of_lt_of_le}
 use native.Mathlib.Omega.{arith}
 use lib.Bits.{and_le_l}
 use borrow.Author.Rules.{rules}
-use Rattle.views.specs.View.{members_of, memberOf}
+use Rattle.views.specs.View.{members_of, member_of}
 use Rattle.views.proofs.is_member.Statement.{statement}
 use Rattle.views.proofs.is_member.Tie as tie
 
@@ -13,12 +13,12 @@ none_above : (v s : ℕ) → 8 ≤ s → members_of v / 2 ^ s ≡ 0
 none_above v s h = div-eq_of_lt (lt_of_lt_of_le {m = 2 ^ 8} (omega (arith, and_le_l (v % 256) (255 - v / 256))) (pow-le-pow_right {n = 2} (omega arith) h))
 
 returns : tie.Need-returns
-unfolding memberOf
+unfolding member_of
 returns c = rw (none_above c.before.args.v c.before.args.s c.if1.true)
 
 returns-2 : tie.Need-returns-2
-unfolding memberOf
+unfolding member_of
 returns-2 c = rw c.members.ensures
 
-pub is-member-spec : {M : Type 1} → statement M
-is-member-spec = tie.close (tie.spec returns (λ c κs. tt) (λ c. search rules) returns-2)
+pub is_member_spec : {M : Type 1} → statement M
+is_member_spec = tie.close (tie.spec returns (λ c κs. tt) (λ c. search rules) returns-2)

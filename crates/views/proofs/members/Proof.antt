@@ -7,5 +7,5 @@ use Rattle.views.proofs.members.Tie as tie
 returns : tie.Need-returns
 returns c = refl
 
-pub members-spec : {M : Type 1} → statement M
-members-spec = tie.close (tie.spec (λ c. search rules) (λ c. search rules) returns)
+pub members_spec : {M : Type 1} → statement M
+members_spec = tie.close (tie.spec (λ c. search rules) (λ c. search rules) returns)

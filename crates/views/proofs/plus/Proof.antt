@@ -1,14 +1,14 @@
 -- `views::plus` meets its contract. Assumes nothing.
 use Prim.Native.Nat.{◌-◌}
 use borrow.Author.Rules.{rules}
-use Rattle.views.specs.Chain.{plusOf}
-use Rattle.views.specs.Row.{viewsOf, row_of}
-use Rattle.views.proofs.Gathers.{Gathers, gathers, plus-before, plus-there, plus-after, plus_none}
+use Rattle.views.specs.Chain.{plus_of}
+use Rattle.views.specs.Row.{views_of, row_of}
+use Rattle.views.proofs.Gathers.{Gathers, gathers, plus-before, plus_there, plus-after, plus_none}
 use Rattle.views.proofs.plus.Statement.{statement}
 use Rattle.views.proofs.plus.Tie as tie
 
 abbrev invariant-loop : tie.invariant-loop
-invariant-loop v q a₀ n i₀ a i = Gathers a (plusOf v) i (viewsOf q) (row_of (plusOf v (viewsOf q)))
+invariant-loop v q a₀ n i₀ a i = Gathers a (plus_of v) i (views_of q) (row_of (plus_of v (views_of q)))
 
 abbrev decreases-loop : tie.decreases-loop
 decreases-loop v q a₀ n i₀ a i = n - i
@@ -17,7 +17,7 @@ returns : tie.Need-returns invariant-loop decreases-loop
 returns c = search (rules, plus-before)
 
 returns-2 : tie.Need-returns-2 invariant-loop decreases-loop
-returns-2 c = search (rules, plus-there)
+returns-2 c = search (rules, plus_there)
 
 loop-again : tie.Need-loop-preserved invariant-loop decreases-loop
 loop-again c = search (gathers, plus-after)
@@ -25,8 +25,8 @@ loop-again c = search (gathers, plus-after)
 returns-3 : tie.Need-returns-3 invariant-loop decreases-loop
 returns-3 c = search (gathers, plus_none)
 
-pub plus-spec : {M : Type 1} → statement M
-plus-spec =
+pub plus_spec : {M : Type 1} → statement M
+plus_spec =
     tie.close
     (tie.spec invariant-loop decreases-loop (λ c κs. tt) (λ c κs. tt) (λ c. search gathers) (λ c κs. tt) (λ c κs. search gathers)
     (λ c κs. search gathers) returns (λ c κs. search gathers) returns-2 (λ c κs. search gathers) (λ c. search gathers)

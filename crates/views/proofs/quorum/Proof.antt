@@ -11,5 +11,5 @@ add-result c = omega (arith, ones-le 8 c.members.result (search rules))
 returns : tie.Need-returns
 returns c = rw c.members.ensures
 
-pub quorum-spec : {M : Type 1} → statement M
-quorum-spec = tie.close (tie.spec (λ c κs. tt) (λ c. search rules) add-result returns)
+pub quorum_spec : {M : Type 1} → statement M
+quorum_spec = tie.close (tie.spec (λ c κs. tt) (λ c. search rules) add-result returns)

@@ -4,27 +4,27 @@ use Prim.Native.Nat.{◌+◌, ◌-◌, ◌≤◌}
 use native.Mathlib.Omega.{arith}
 use lib.ListN.{length, drop}
 use borrow.Author.Rules.{rules}
-use Rattle.views.specs.Chain.{unionOf}
-use Rattle.views.specs.Row.{viewsOf, row_of}
-use Rattle.views.proofs.Rows.{clean-row, held_same}
-use Rattle.views.proofs.Gathers.{union-start, union-row}
+use Rattle.views.specs.Chain.{union_of}
+use Rattle.views.specs.Row.{views_of, row_of}
+use Rattle.views.proofs.Rows.{clean_row, held_same}
+use Rattle.views.proofs.Gathers.{union_start, union_row}
 use Rattle.views.proofs.union.Statement.{statement}
 use Rattle.views.proofs.union.Tie as tie
 
 abbrev invariant-loop : tie.invariant-loop
-invariant-loop a r₀ i₀ r i = (i ≤ i₀) × (r ≡ row_of (unionOf (drop i (viewsOf a)) (viewsOf r₀)))
+invariant-loop a r₀ i₀ r i = (i ≤ i₀) × (r ≡ row_of (union_of (drop i (views_of a)) (views_of r₀)))
 
 abbrev decreases-loop : tie.decreases-loop
 decreases-loop a r₀ i₀ r i = i
 
 loop-holds : tie.Need-loop-init invariant-loop decreases-loop
-loop-holds c = (omega arith, clean-row _ _ c.before.kept.ensures ∙ ap row_of (sym (union-start _ _ _ c.count.ensures.0)))
+loop-holds c = (omega arith, clean_row _ _ c.before.kept.ensures ∙ ap row_of (sym (union_start _ _ _ c.count.ensures.0)))
 
 loop-again : tie.Need-loop-preserved invariant-loop decreases-loop
 loop-again c =
     let l = c.before.before.before.loop in
     let back : l.i ≡ l.i - 1 + 1 = omega arith in
-    (omega arith, union-row _ _ (l.i - 1) _ l.r _ c.before.view-at.ensures (omega arith) (rw back at l.invariant.1) c.plus.ensures)
+    (omega arith, union_row _ _ (l.i - 1) _ l.r _ c.before.view_at.ensures (omega arith) (rw back at l.invariant.1) c.plus.ensures)
 
 returns : tie.Need-returns invariant-loop decreases-loop
 returns c =
@@ -33,8 +33,8 @@ returns c =
     let done : c.before.loop.i ≡ 0 = omega arith in
     c.before.loop.invariant.1 ∙ rw (done, held_same _ b full c.before.before.before.kept.ensures)
 
-pub union-spec : {M : Type 1} → statement M
-union-spec =
+pub union_spec : {M : Type 1} → statement M
+union_spec =
     tie.close
     (tie.spec invariant-loop decreases-loop (λ c κs. tt) (λ c κs. tt) loop-holds (λ c. omega arith) (λ c κs. tt) (λ c κs. tt)
     (λ c. omega arith) loop-again returns)

@@ -1,29 +1,29 @@
 -- `world::relay_asked` meets its contract. Assumes nothing.
 use mathlib.Core.Path.{ap, ◌∙◌}
 use borrow.Author.Tests.{ne_eqb}
-use Rattle.rules.specs.State.{noRelay}
+use Rattle.rules.specs.State.{no_relay}
 use Rattle.state.specs.Plans.{planned}
-use Rattle.locality.specs.Asked.{relayAsked}
-use Rattle.locality.proofs.Fits.{join-fits, timer-fits}
+use Rattle.locality.specs.Asked.{relay_asked}
+use Rattle.locality.proofs.Fits.{join_fits, timer_fits}
 use Rattle.world.proofs.relay_asked.Statement.{statement}
 use Rattle.world.proofs.relay_asked.Tie as tie
 
 returns : tie.Need-returns
-unfolding relayAsked
+unfolding relay_asked
 returns c =
     let a = c.before.before in
-    rw c.before.if1.true (c.join-asked.ensures ∙ ap (planned noRelay) (join-fits a.args.s _ a.requires.0))
+    rw c.before.if1.true (c.join-asked.ensures ∙ ap (planned no_relay) (join_fits a.args.s _ a.requires.0))
 
 returns-2 : tie.Need-returns-2
-unfolding relayAsked
+unfolding relay_asked
 returns-2 c = rw c.before.if2.true c.leave-asked.ensures
 
 returns-3 : tie.Need-returns-3
-unfolding relayAsked
+unfolding relay_asked
 returns-3 c =
     let t = c.before in
     let a = t.before.before in
-    rw (ne_eqb _ 1 t.before.if1.false, ne_eqb _ 2 t.if2.false) (c.timer-rang.ensures ∙ ap (planned noRelay) (timer-fits _ a.requires.1))
+    rw (ne_eqb _ 1 t.before.if1.false, ne_eqb _ 2 t.if2.false) (c.timer-rang.ensures ∙ ap (planned no_relay) (timer_fits _ a.requires.1))
 
-pub relay-asked-spec : {M : Type 1} → statement M
-relay-asked-spec = tie.close (tie.spec (λ c κs. tt) returns (λ c κs. tt) returns-2 (λ c κs. tt) returns-3)
+pub relay_asked_spec : {M : Type 1} → statement M
+relay_asked_spec = tie.close (tie.spec (λ c κs. tt) returns (λ c κs. tt) returns-2 (λ c κs. tt) returns-3)

@@ -3,15 +3,15 @@ use mathlib.Core.Path.{refl, ◌∙◌}
 use Prim.Native.Nat.{◌<◌}
 use borrow.Author.Rules.{rules}
 use Rattle.rules.specs.Messages.{bad-world, bad-step}
-use Rattle.state.specs.Meaning.{eventOf}
-use Rattle.world.proofs.Begun.{start-misfit, start_none, start-done}
+use Rattle.state.specs.Meaning.{event_of}
+use Rattle.world.proofs.Begun.{start_misfit, start_none, start-done}
 use Rattle.world.proofs.start.Statement.{statement}
 use Rattle.world.proofs.start.Tie as tie
 
 returns : tie.Need-returns
 returns c =
     let a = c.before.before.before.args in
-    c.refuses.ensures bad-world a.w.now refl ∙ start-misfit a.w.now a.mask c.before.if1.true
+    c.refuses.ensures bad-world a.w.now refl ∙ start_misfit a.w.now a.mask c.before.if1.true
 
 returns-2 : tie.Need-returns-2
 returns-2 c =
@@ -20,7 +20,7 @@ returns-2 c =
     c.refuses2.ensures bad-step a.w.now refl ∙ start_none a.w.now a.mask long.if1.false c.before.if2.true
 
 returns-3 : tie.Need-returns-3
-unfolding eventOf
+unfolding event_of
 returns-3 c =
     let desks = c.before.before.before in
     let relays = desks.before.before.before.before in

@@ -6,9 +6,9 @@ use native.Mathlib.Omega.{arith}
 use borrow.Author.Rules.{rules}
 use borrow.Author.Tests.{eq-eqb, ne_eqb, lt-ltb, le-ltb, not-true, not-false}
 use Rattle.rules.specs.Messages.{bad-step, dead}
-use Rattle.layout.specs.Image.{worldAt, goodBytes}
-use Rattle.layout.specs.Lent.{left, lentStep}
-use Rattle.world.proofs.Routes.{doing, routed, step_left, bad-left, told-valued, told-place, acted, dead-left, alive-left}
+use Rattle.layout.specs.Image.{world_at, good_bytes}
+use Rattle.layout.specs.Lent.{left, lent_step}
+use Rattle.world.proofs.Routes.{doing, routed, step_left, bad-left, told_valued, told-place, acted, dead-left, alive-left}
 use Rattle.world.proofs.step_good.Statement.{statement}
 use Rattle.world.proofs.step_good.Tie as tie
 
@@ -16,7 +16,7 @@ returns : tie.Need-returns
 returns c =
     let a = c.before.before.before.before in
     let b = a.args.w.now in
-    c.refuses.ensures bad-step b refl ∙ bad-left b a.requires a.args.k (told-valued a.args.k c.before.if1.true)
+    c.refuses.ensures bad-step b refl ∙ bad-left b a.requires a.args.k (told_valued a.args.k c.before.if1.true)
 
 returns-2 : tie.Need-returns-2
 returns-2 c =
@@ -30,14 +30,14 @@ returns-2 c =
 routes : (c : tie.After-actor) → let a = c.before.before.before.before.before in
     let b = a.args.w.now in
     let k = a.args.k in
-    left b (routed (worldAt b) k.kind c.actor.result k.value) ≡ lentStep b k
+    left b (routed (world_at b) k.kind c.actor.result k.value) ≡ lent_step b k
 routes c =
     let valueless = c.before.before in
     let a = valueless.before.before.before in
     let b = a.args.w.now in
     let k = a.args.k in
     let small : k.value < 4294967296 = search rules in
-    rw c.actor.ensures (ap (left b) (sym (acted k valueless.if1.false (worldAt b) c.before.if2.false small)) ∙ step_left b a.requires k _ refl)
+    rw c.actor.ensures (ap (left b) (sym (acted k valueless.if1.false (world_at b) c.before.if2.false small)) ∙ step_left b a.requires k _ refl)
 
 returns-3 : tie.Need-returns-3
 returns-3 c =
@@ -59,7 +59,7 @@ does : (c : tie.Else4) → let found = c.before.before.before.before in
     let a = found.before.before.before.before.before in
     let b = a.args.w.now in
     let k = a.args.k in
-    left b (doing (worldAt b) k.kind found.actor.result k.value) ≡ lentStep b k
+    left b (doing (world_at b) k.kind found.actor.result k.value) ≡ lent_step b k
 does c =
     let low = c.before.before.before in
     let found = low.before in
@@ -83,12 +83,12 @@ returns-7 c =
     c.before.before.desk-acts.ensures ∙ (rw (ne_eqb _ 8 t.before.if5.false, le-ltb _ 8 t.if6.false) at (does t.before.before))
 
 -- the world is good, and the actor one of twelve
-twelve : (c : tie.Else4) → let found = c.before.before.before.before in (goodBytes found.before.before.before.before.before.args.w.now ≡ true) × (found.actor.result < 12)
+twelve : (c : tie.Else4) → let found = c.before.before.before.before in (good_bytes found.before.before.before.before.before.args.w.now ≡ true) × (found.actor.result < 12)
 twelve c = (c.before.before.before.before.before.before.before.before.before.requires, c.before.before.before.if3.false)
 
-desk-acts-requires : tie.Need-desk-acts-requires
-desk-acts-requires c κs = let two = twelve c.before.before.before in (two.0, omega (arith, two.1))
+desk_acts_requires : tie.Need-desk-acts-requires
+desk_acts_requires c κs = let two = twelve c.before.before.before in (two.0, omega (arith, two.1))
 
-pub step-good-spec : {M : Type 1} → statement M
-step-good-spec = tie.close (tie.spec (λ c κs. tt) returns (λ c κs. c.before.before.before.before.before.requires) (λ c. search rules) returns-2 (λ c κs. tt) (λ c κs. tt) returns-3 (λ c κs. c.before.if3.false) (λ c κs. tt) (λ c. search rules) returns-4 (λ c κs. twelve c.before.before) (λ c. search rules) returns-5
-    (λ c κs. ((twelve c.before.before.before).0, c.before.if6.true)) (λ c. search rules) returns-6 desk-acts-requires (λ c. search rules) returns-7)
+pub step_good_spec : {M : Type 1} → statement M
+step_good_spec = tie.close (tie.spec (λ c κs. tt) returns (λ c κs. c.before.before.before.before.before.requires) (λ c. search rules) returns-2 (λ c κs. tt) (λ c κs. tt) returns-3 (λ c κs. c.before.if3.false) (λ c κs. tt) (λ c. search rules) returns-4 (λ c κs. twelve c.before.before) (λ c. search rules) returns-5
+    (λ c κs. ((twelve c.before.before.before).0, c.before.if6.true)) (λ c. search rules) returns-6 desk_acts_requires (λ c. search rules) returns-7)

@@ -6,5 +6,5 @@ use Rattle.good.proofs.parts.are_members.Tie as tie
 returns : tie.Need-returns
 returns c = cc
 
-pub are-members-spec : {M : Type 1} → statement M
-are-members-spec = tie.close (tie.spec (λ c κs. tt) (λ c. search rules) (λ c κs. tt) returns)
+pub are_members_spec : {M : Type 1} → statement M
+are_members_spec = tie.close (tie.spec (λ c κs. tt) (λ c. search rules) (λ c κs. tt) returns)

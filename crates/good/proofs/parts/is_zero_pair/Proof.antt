@@ -12,5 +12,5 @@ returns-2 c = rw (eq-eqb _ _ c.before.before.if1.false, ne_eqb _ _ c.if2.true)
 returns-3 : tie.Need-returns-3
 returns-3 c = rw (eq-eqb _ _ c.before.before.before.if1.false, eq-eqb _ _ c.before.if2.false)
 
-pub is-zero-pair-spec : {M : Type 1} → statement M
-is-zero-pair-spec = tie.close (tie.spec returns returns-2 returns-3)
+pub is_zero_pair_spec : {M : Type 1} → statement M
+is_zero_pair_spec = tie.close (tie.spec returns returns-2 returns-3)

@@ -4,7 +4,7 @@ use lib.Dec.{eqb}
 use lib.ListN.{length, get_or}
 use borrow.Author.Rules.{rules}
 use borrow.Author.Tests.{eq-eqb, ne_eqb}
-use Rattle.rows.proofs.All.{Passed, passed_none, passed-more, passed-all, passed-fails}
+use Rattle.rows.proofs.All.{Passed, passed_none, passed_more, passed_all, passed_fails}
 use Rattle.good.specs.Rows.{held}
 use Rattle.good.proofs.parts.same_part.Statement.{statement}
 use Rattle.good.proofs.parts.same_part.Tie as tie
@@ -29,7 +29,7 @@ shared-slice-read-if1-2 c = search rules
 
 returns : tie.Need-returns invariant-loop decreases-loop
 unfolding held
-returns c = passed-fails c.before.before.before.before.loop.invariant c.before.before.before.loop-test.true (ne_eqb _ _ c.if1.true)
+returns c = passed_fails c.before.before.before.before.loop.invariant c.before.before.before.loop-test.true (ne_eqb _ _ c.if1.true)
 
 add-i : tie.Need-overflow-add-i invariant-loop decreases-loop
 add-i c = search rules
@@ -38,14 +38,14 @@ loop-less : tie.Need-loop-smaller invariant-loop decreases-loop
 loop-less c = search rules
 
 loop-again : tie.Need-loop-preserved invariant-loop decreases-loop
-loop-again c = passed-more c.before.before.before.before.loop.invariant c.before.before.before.loop-test.true (eq-eqb _ _ c.if1.false)
+loop-again c = passed_more c.before.before.before.before.loop.invariant c.before.before.before.loop-test.true (eq-eqb _ _ c.if1.false)
 
 returns-2 : tie.Need-returns-2 invariant-loop decreases-loop
 unfolding held
-returns-2 c = passed-all c.before.loop.invariant c.loop-test.false
+returns-2 c = passed_all c.before.loop.invariant c.loop-test.false
 
-pub same-part-spec : {M : Type 1} → statement M
-same-part-spec =
+pub same_part_spec : {M : Type 1} → statement M
+same_part_spec =
     tie.close
     (tie.spec
     invariant-loop

@@ -1,13 +1,13 @@
 -- `good::places::asked` meets its contract. Assumes nothing.
-use Rattle.good.proofs.Tests.{both-fail, both-pass, no, yes}
+use Rattle.good.proofs.Tests.{both_fail, both_pass, no, yes}
 use Rattle.good.proofs.places.asked.Statement.{statement}
 use Rattle.good.proofs.places.asked.Tie as tie
 
 returns : tie.Need-returns
-returns c = both-fail _ (no c.before.is-desk.ensures c.if1.true)
+returns c = both_fail _ (no c.before.is-desk.ensures c.if1.true)
 
 returns-2 : tie.Need-returns-2
-returns-2 c = both-pass (yes c.before.before.is-desk.ensures c.before.if1.false) c.is_member.ensures
+returns-2 c = both_pass (yes c.before.before.is-desk.ensures c.before.if1.false) c.is_member.ensures
 
-pub asked-spec : {M : Type 1} → statement M
-asked-spec = tie.close (tie.spec (λ c κs. tt) returns (λ c κs. tt) returns-2)
+pub asked_spec : {M : Type 1} → statement M
+asked_spec = tie.close (tie.spec (λ c κs. tt) returns (λ c κs. tt) returns-2)

@@ -10,5 +10,5 @@ returns-2 c = let a = c.before.before.args in rw (not-false a.active c.before.if
 returns-3 : tie.Need-returns-3
 returns-3 c = let a = c.before.before.before.args in rw (not-false a.active c.before.before.if1.false, not-false a.entered c.before.if2.false) c.is_member.ensures
 
-pub good-active-spec : {M : Type 1} → statement M
-good-active-spec = tie.close (tie.spec (λ c. search rules) returns-2 (λ c κs. tt) returns-3)
+pub good_active_spec : {M : Type 1} → statement M
+good_active_spec = tie.close (tie.spec (λ c. search rules) returns-2 (λ c κs. tt) returns-3)

@@ -10,5 +10,5 @@ returns c = rw c.if1.true
 returns-2 : tie.Need-returns-2
 returns-2 c = rw c.if1.false (sym (not-not _))
 
-pub good-entered-spec : {M : Type 1} → statement M
-good-entered-spec = tie.close (tie.spec returns returns-2)
+pub good_entered_spec : {M : Type 1} → statement M
+good_entered_spec = tie.close (tie.spec returns returns-2)

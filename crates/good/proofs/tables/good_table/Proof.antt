@@ -9,26 +9,26 @@ use native.Mathlib.Omega.{arith}
 use lib.Dec.{eqb}
 use lib.ListN.{get_or}
 use borrow.Author.Rules.{rules}
-use Rattle.rows.specs.Tests.{allZero}
-use Rattle.rows.proofs.All.{all-at, all-every, Passed, passed-all, passed-fails, passed-more, passed_none, passed-rest}
-use Rattle.rules.specs.Sets.{◌||◌, seatCount}
-use Rattle.layout.specs.Layout.{generatorWidth, generatorsWidth}
-use Rattle.good.specs.Rows.{filledGood}
+use Rattle.rows.specs.Tests.{all_zero}
+use Rattle.rows.proofs.All.{all_at, all_every, Passed, passed_all, passed_fails, passed_more, passed_none, passed_rest}
+use Rattle.rules.specs.Sets.{◌||◌, seat_count}
+use Rattle.layout.specs.Layout.{generator_width, generators_width}
+use Rattle.good.specs.Rows.{filled_good}
 use Rattle.good.proofs.Rows.{rows_inside}
-use Rattle.good.proofs.Tests.{either_first, either-next, no as fails, yes as holds}
+use Rattle.good.proofs.Tests.{either_first, either_next, no as fails, yes as holds}
 use Rattle.good.proofs.tables.good_table.Statement.{statement}
 use Rattle.good.proofs.tables.good_table.Tie as tie
 
 abbrev invariant-loop : tie.invariant-loop
-invariant-loop w s at generators width i₀ i = Passed seatCount (filledGood generators width w s at) i
+invariant-loop w s at generators width i₀ i = Passed seat_count (filled_good generators width w s at) i
 
 abbrev decreases-loop : tie.decreases-loop
-decreases-loop w s at generators width i₀ i = seatCount - i
+decreases-loop w s at generators width i₀ i = seat_count - i
 
 -- where all is zero from place i on, it is from each later place on
-zero-later : (n : ℕ) (l : List ℕ) (o i k : ℕ) → i ≤ k → allZero l (o + i * n) ((8 - i) * n) ≡ true → allZero l (o + k * n) ((8 - k) * n) ≡ true
-unfolding allZero
-zero-later n l o i k h e = all-every ((8 - k) * n) _ (λ j p. rw (at j) (all-at ((8 - i) * n) ((k - i) * n + j) (λ m. eqb (get_or l (o + i * n + m) 0) 0) e (inside j p)))
+zero_later : (n : ℕ) (l : List ℕ) (o i k : ℕ) → i ≤ k → all_zero l (o + i * n) ((8 - i) * n) ≡ true → all_zero l (o + k * n) ((8 - k) * n) ≡ true
+unfolding all_zero
+zero_later n l o i k h e = all_every ((8 - k) * n) _ (λ j p. rw (at j) (all_at ((8 - i) * n) ((k - i) * n + j) (λ m. eqb (get_or l (o + i * n + m) 0) 0) e (inside j p)))
   where
     times : (a b c : ℕ) → a ≡ b + c → a * n ≡ b * n + c * n
     times a b c q = ap (λ (x : ℕ). x * n) q ∙ add-mul b c n
@@ -44,37 +44,37 @@ zero-later n l o i k h e = all-every ((8 - k) * n) _ (λ j p. rw (at j) (all-at 
         go (no q) = absurd (omega (arith, ap (λ (x : ℕ). x * n) (let z : 8 - k ≡ 0 = omega arith in z)))
 
 returns : tie.Need-returns invariant-loop decreases-loop
-unfolding filledGood
+unfolding filled_good
 returns c =
-    passed-rest c.before.before.before.loop.invariant
-    (λ k h. sym (either_first _ (zero-later _ _ _ _ k h (sym c.before.is_zero.ensures ∙ c.if1.true))))
+    passed_rest c.before.before.before.loop.invariant
+    (λ k h. sym (either_first _ (zero_later _ _ _ _ k h (sym c.before.is_zero.ensures ∙ c.if1.true))))
 
 -- at a place that is not zero it is the place that decides
 decides : {z b r q : Bool} → z ≡ b → z ≡ false → r ≡ q → r ≡ b || q
-decides e f h = either-next (sym e ∙ f) h
+decides e f h = either_next (sym e ∙ f) h
 
 returns-2 : tie.Need-returns-2 invariant-loop decreases-loop
-unfolding filledGood
+unfolding filled_good
 returns-2 c =
     let g = c.before in
     let z = g.before.before in
-    passed-fails z.before.before.loop.invariant (omega arith) (fails (decides z.is_zero.ensures g.before.if1.false g.good-place.ensures) c.if2.true)
+    passed_fails z.before.before.loop.invariant (omega arith) (fails (decides z.is_zero.ensures g.before.if1.false g.good_place_lem.ensures) c.if2.true)
 
 loop-again : tie.Need-loop-preserved invariant-loop decreases-loop
-unfolding filledGood
+unfolding filled_good
 loop-again c =
     let g = c.before in
     let z = g.before.before in
-    passed-more z.before.before.loop.invariant (omega arith) (holds (decides z.is_zero.ensures g.before.if1.false g.good-place.ensures) c.if2.false)
+    passed_more z.before.before.loop.invariant (omega arith) (holds (decides z.is_zero.ensures g.before.if1.false g.good_place_lem.ensures) c.if2.false)
 
 returns-3 : tie.Need-returns-3 invariant-loop decreases-loop
-returns-3 c = passed-all c.before.loop.invariant (omega arith)
+returns-3 c = passed_all c.before.loop.invariant (omega arith)
 
-inside : (c : tie.In-loop invariant-loop decreases-loop) → let n = c.before.before.before.args.width in (c.before.loop.i * n ≤ (seatCount - 1) * generatorWidth) × ((seatCount - c.before.loop.i) * n ≤ generatorsWidth)
-inside c = (rows_inside _ (seatCount - 1) _ (omega arith) (omega arith), rows_inside _ seatCount _ (omega arith) (omega arith))
+inside : (c : tie.In-loop invariant-loop decreases-loop) → let n = c.before.before.before.args.width in (c.before.loop.i * n ≤ (seat_count - 1) * generator_width) × ((seat_count - c.before.loop.i) * n ≤ generators_width)
+inside c = (rows_inside _ (seat_count - 1) _ (omega arith) (omega arith), rows_inside _ seat_count _ (omega arith) (omega arith))
 
-pub good-table-spec : {M : Type 1} → statement M
-good-table-spec =
+pub good_table_spec : {M : Type 1} → statement M
+good_table_spec =
     tie.close
     (tie.spec invariant-loop decreases-loop (λ c. passed_none) (λ c. let h = inside c in search rules) (λ c. let h = inside c in search rules) (λ c. search rules) (λ c. let h = inside c in search rules)
     (λ c κs. tt) returns (λ c κs. search rules) returns-2 (λ c. search rules) (λ c. search rules) loop-again returns-3)

@@ -1,11 +1,11 @@
 -- `relay::parts::quietly` meets its contract. Assumes nothing.
-use Rattle.state.specs.Meaning.{eventOf}
+use Rattle.state.specs.Meaning.{event_of}
 use Rattle.relay.proofs.parts.quietly.Statement.{statement}
 use Rattle.relay.proofs.parts.quietly.Tie as tie
 
 returns : tie.Need-returns
-unfolding eventOf
+unfolding event_of
 returns c = c.tells.ensures
 
-pub quietly-spec : {M : Type 1} → statement M
-quietly-spec = tie.close (tie.spec (λ c κs. tt) returns)
+pub quietly_spec : {M : Type 1} → statement M
+quietly_spec = tie.close (tie.spec (λ c κs. tt) returns)

@@ -5,5 +5,5 @@ use Rattle.relay.proofs.parts.sends.Tie as tie
 returns : tie.Need-returns
 returns c = c.sent-first.ensures _ _ _ c.before.quietly.ensures
 
-pub sends-spec : {M : Type 1} → statement M
-sends-spec = tie.close (tie.spec (λ c κs. tt) (λ c κs. tt) returns)
+pub sends_spec : {M : Type 1} → statement M
+sends_spec = tie.close (tie.spec (λ c κs. tt) (λ c κs. tt) returns)

@@ -1,12 +1,12 @@
 -- `relay::parts::tells` meets its contract. Assumes nothing.
 use Rattle.state.specs.Plans.{plan_of, planned}
-use Rattle.messages.proofs.Sent.{all-means}
+use Rattle.messages.proofs.Sent.{all_means}
 use Rattle.relay.proofs.parts.tells.Statement.{statement}
 use Rattle.relay.proofs.parts.tells.Tie as tie
 
 returns : tie.Need-returns
 unfolding plan_of planned
-returns c = rw (all-means _ c.nothing-sent.ensures)
+returns c = rw (all_means _ c.nothing-sent.ensures)
 
-pub tells-spec : {M : Type 1} → statement M
-tells-spec = tie.close (tie.spec (λ c κs. tt) returns)
+pub tells_spec : {M : Type 1} → statement M
+tells_spec = tie.close (tie.spec (λ c κs. tt) returns)

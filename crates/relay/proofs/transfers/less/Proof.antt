@@ -8,5 +8,5 @@ use Rattle.relay.proofs.transfers.less.Tie as tie
 sub-result : tie.Need-overflow-sub-result
 sub-result c = omega (arith, and_le_l c.args.a c.args.b)
 
-pub less-spec : {M : Type 1} → statement M
-less-spec = tie.close (tie.spec sub-result (λ c. search rules))
+pub less_spec : {M : Type 1} → statement M
+less_spec = tie.close (tie.spec sub-result (λ c. search rules))

@@ -9,5 +9,5 @@ returns c = rw (sym c.before.inside.ensures ∙ c.if1.true)
 returns-2 : tie.Need-returns-2
 returns-2 c = rw (sym c.before.inside.ensures ∙ c.if1.false)
 
-pub newer-spec : {M : Type 1} → statement M
-newer-spec = tie.close (tie.spec (λ c κs. tt) returns returns-2)
+pub newer_spec : {M : Type 1} → statement M
+newer_spec = tie.close (tie.spec (λ c κs. tt) returns returns-2)

@@ -13,5 +13,5 @@ returns-2 : tie.Need-returns-2
 unfolding begun
 returns-2 c = rw (lt-leb _ _ c.before.before.if1.false) c.cleared.ensures
 
-pub begun-spec : {M : Type 1} → statement M
-begun-spec = tie.close (tie.spec returns (λ c. search rules) (λ c κs. tt) returns-2)
+pub begun_spec : {M : Type 1} → statement M
+begun_spec = tie.close (tie.spec returns (λ c. search rules) (λ c κs. tt) returns-2)

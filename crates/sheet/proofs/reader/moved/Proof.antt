@@ -61,8 +61,8 @@ module _ {M : Type 1} {𝓤 : Ura M} (𝓛 : Logic 𝓤) (mem : Memory → SProp
       returns ! (look ! 12 refl) $ forget ! 2 refl $ forget ! 4 refl $ forget ! 6 refl $ forget ! 8 refl $ forget ! 10 refl $ forget ! 12 refl $
       move ! (12 ∷ 13 ∷ []) $ free1 ! $ move ! (10 ∷ 11 ∷ []) $ free1 ! $ move ! (8 ∷ 9 ∷ []) $ free1 ! $ move ! (6 ∷ 7 ∷ []) $ free1 ! $ move ! (4 ∷ 5 ∷ []) $ free1 ! $ move ! (2 ∷ 3 ∷ []) $ free1 ! $ free0 ! $ by ! (exits κ q d r is.1 e))))))))
 
-pub moved-spec : {M : Type 1} → stated.statement M
+pub moved_spec : {M : Type 1} → stated.statement M
 unfolding code.routine
-moved-spec 𝓤 𝓛 𝓜 𝓡 =
+moved_spec 𝓤 𝓛 𝓜 𝓡 =
     spec 𝓛 𝓜 𝓡 this (moved.clauses 𝓛 𝓜.mem 𝓡.run) code.env #reader·moved code.function (code.unfolded 𝓤 𝓛.H 𝓜 𝓡) after-def.name after-def.routine code.calls-sheet::after (after-thm.met 𝓤 𝓛 𝓜 𝓡)
     (walk 𝓛 𝓜.mem 𝓡.run (tables 𝓤 𝓛.H 𝓜 𝓡 code.env).C (tables 𝓤 𝓛.H 𝓜 𝓡 code.env).Λ)

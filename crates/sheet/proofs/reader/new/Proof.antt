@@ -39,7 +39,7 @@ use denote.Triple.Table.{entered, cited}
 use denote.Triple.Walked.{says, Stays, stay_none_slice, walk_of, Goes-none_slice, Walks, ends_at, walked, walk_Meets}
 use denote.Triple.Clauses.{ensured, lasts}
 use denote.Exit.{yes}
-use Rattle.sheet.specs.Reading.{frontOf}
+use Rattle.sheet.specs.Reading.{front_of}
 use Rattle.sheet.specs.declared.reader.Reader.{Reader}
 use Rattle.sheet.specs.contracts.reader.Reader as T
 use Rattle.sheet.proofs.reader.Reader.TheLaws as T'
@@ -92,10 +92,10 @@ module _ {M : Type 1} {𝓤 : Ura M} (𝓛 : Logic 𝓤) (mem : Memory → SProp
   abbrev Ensured : ℕ → SProp 𝓤
   Ensured n = ensured 𝓛 front.ended (front.clauses 𝓛 mem run) (κ, tt) (s, tt) tt n
 
-  front-said : (n : ℕ) → ent 𝓤 (Ensured n) (fact 𝓤 (n ≡ frontOf s.now))
-  front-said n = ex_e 𝓤 _ (λ ws. snd∗ 𝓤 (sem 𝓛 (lasts front.ended (κ, tt) (s, tt) ws)) (fact 𝓤 (n ≡ frontOf s.now)))
+  front_said : (n : ℕ) → ent 𝓤 (Ensured n) (fact 𝓤 (n ≡ front_of s.now))
+  front_said n = ex_e 𝓤 _ (λ ws. snd∗ 𝓤 (sem 𝓛 (lasts front.ended (κ, tt) (s, tt) ws)) (fact 𝓤 (n ≡ front_of s.now)))
 
-  exits : (n : ℕ) → n < 2 ^ 64 → n ≡ frontOf s.now → ent 𝓤 (⋆ 𝓛 ((‵ (flft κ q) ⊛ ‵ ftrue) ∷ ‵ Own ∷ [])) (Post (T'.lowered (made n)))
+  exits : (n : ℕ) → n < 2 ^ 64 → n ≡ front_of s.now → ent 𝓤 (⋆ 𝓛 ((‵ (flft κ q) ⊛ ‵ ftrue) ∷ ‵ Own ∷ [])) (Post (T'.lowered (made n)))
   exits n fits e =
       qed 𝓛 ((‵ (flft κ q) ⊛ ‵ ftrue) ∷ ‵ Own ∷ []) ∵
       suffices ! _
@@ -121,8 +121,8 @@ module _ {M : Type 1} {𝓤 : Ura M} (𝓛 : Logic 𝓤) (mem : Memory → SProp
         -- [what `front` asks; what s owns; room for _2; …; _1; …; room for _0; …]
         calls_at ! fm (Front 𝓛 mem run) known to_front (and_then ! (load ! (from ! (stop !)) (look ! 4 refl)) (no_more !)) (λ u.
         use1 𝓛 (later (some (λ (n : ℕ). ((‵ (flft κ q) ⊛ ‵ ftrue) ⊛ ‵ (usize.own_val n (u ∷ []))) ⊛ raw (Ensured n)))) (id⊢ 𝓤 _) $ await ! tt $ pick ! (λ n.
-        split ! $ move ! (1 ∷ []) $ use1 𝓛 (raw (fact 𝓤 (n ≡ frontOf s.now))) (front-said n) $
-        heard ! (n ≡ frontOf s.now) (λ e. split ! $ move ! (1 ∷ []) $
+        split ! $ move ! (1 ∷ []) $ use1 𝓛 (raw (fact 𝓤 (n ≡ front_of s.now))) (front_said n) $
+        heard ! (n ≡ front_of s.now) (λ e. split ! $ move ! (1 ∷ []) $
         peeks ! usize (Is usize) (shows 𝓛 usize) n (u ∷ []) (λ is.
         -- [the number; the token; what s owns; room for _2; …; _1; …; room for _0; …]
         land ! (from ! (stop !)) (init ! 3 refl ((uint_Lawful 𝓛 w64).typed n _ is).0) $

@@ -14,7 +14,7 @@ use types.Kit.{raw, ◌$◌, ◌∵◌, !, qed, by, move}
 use types.Part.{whole, sub, look_in}
 use types.Run.{look, init, forget, stop, fld, from, load, of_opd, and_then, no_more, assigns, land, returns, enter, alloc1, alloc0, params1, pass1, pass0, free1, free0}
 use denote.Enum.Laws as EL
-use Rattle.sheet.specs.Reading.{stepAt}
+use Rattle.sheet.specs.Reading.{step_at}
 use Rattle.sheet.proofs.Held.{Passing, Before, Walk, mach, calls, ends, spec}
 use Rattle.sheet.specs.contracts.Found as S
 use Rattle.sheet.proofs.Found.TheLaws as S'
@@ -26,7 +26,7 @@ use Rattle.sheet.proofs.reader.next.Statement as stated
 use Rattle.sheet.proofs.reader.next.Code as code
 
 abbrev this : Passing
-this = record { back = S.the_row; gives = stepAt; result = λ κs. S.the_row }
+this = record { back = S.the_row; gives = step_at; result = λ κs. S.the_row }
 
 walk : {M : Type 1} {𝓤 : Ura M} (𝓛 : Logic 𝓤) (mem : Memory → SProp 𝓤) (run : Routine → Fun 𝓤) (C : Calls 𝓤 𝓛.H) (Λ : Loops 𝓤 𝓛.H) → Walk this 𝓤 𝓛 (next.clauses 𝓛 mem run) C Λ step-def.name code.function
 walk {𝓤 = 𝓤} 𝓛 mem run C Λ fm known κ q d g wt =
@@ -40,8 +40,8 @@ walk {𝓤 = 𝓤} 𝓛 mem run C Λ fm known κ q d g wt =
     returns ! (look ! 9 refl) $ forget ! 3 refl $ forget ! 5 refl $ forget ! 7 refl $ forget ! 9 refl $
     move ! (9 ∷ 10 ∷ []) $ free1 ! $ move ! (7 ∷ 8 ∷ []) $ free1 ! $ move ! (5 ∷ 6 ∷ []) $ free1 ! $ move ! (3 ∷ 4 ∷ []) $ free1 ! $ free0 ! $ by ! (ends 𝓛 this κ q d (next.clauses 𝓛 mem run) g u r (fact_i 𝓤 _ (emp 𝓤) e)))))))
 
-pub next-spec : {M : Type 1} → stated.statement M
+pub next_spec : {M : Type 1} → stated.statement M
 unfolding code.routine
-next-spec 𝓤 𝓛 𝓜 𝓡 =
+next_spec 𝓤 𝓛 𝓜 𝓡 =
     spec 𝓛 𝓜 𝓡 this (next.clauses 𝓛 𝓜.mem 𝓡.run) code.env #reader·next code.function (code.unfolded 𝓤 𝓛.H 𝓜 𝓡) step-def.name step-def.routine code.calls-sheet::step-at (step_thm.met 𝓤 𝓛 𝓜 𝓡)
     (walk 𝓛 𝓜.mem 𝓡.run (tables 𝓤 𝓛.H 𝓜 𝓡 code.env).C (tables 𝓤 𝓛.H 𝓜 𝓡 code.env).Λ)

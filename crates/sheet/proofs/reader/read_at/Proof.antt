@@ -40,7 +40,7 @@ use denote.Triple.Table.{entered, cited}
 use denote.Triple.Walked.{says, Stays, stay_none, stay_none_slice, walk_of, Goes-none, Goes-none_slice, Walks, ends_at, walked, walk_Meets}
 use denote.Exit.{yes}
 use denote.Triple.Clauses.{ensured, lasts}
-use Rattle.sheet.specs.Reading.{stepAt, after_of, takenAt}
+use Rattle.sheet.specs.Reading.{step_at, after_of, taken_at}
 use Rattle.sheet.specs.declared.reader.Reader.{Reader}
 use Rattle.sheet.specs.declared.Found.{Found}
 use Rattle.sheet.specs.declared.reader.Taken.{Taken}
@@ -111,8 +111,8 @@ module _ {M : Type 1} {𝓤 : Ura M} (𝓛 : Logic 𝓤) (mem : Memory → SProp
   goes : ent 𝓤 (⋆ 𝓛 (‵ Held ∷ (‵ (flft κ q) ⊛ ‵ ftrue) ∷ [])) ((Next 𝓛 mem run).pre to-next)
   goes = qed 𝓛 (‵ Held ∷ (‵ (flft κ q) ⊛ ‵ ftrue) ∷ []) ∵ nothing ! $ move ! (1 ∷ 0 ∷ []) $ fjoin ! $ move ! (1 ∷ 0 ∷ []) $ join ! $ frame ! $ done !
 
-  next-said : (t : Found) → ent 𝓤 (ensured 𝓛 next.ended (next.clauses 𝓛 mem run) (κ, tt) (r, tt) tt t) (fact 𝓤 (t ≡ stepAt s.now n))
-  next-said t = ex_e 𝓤 _ (λ ws. snd∗ 𝓤 (sem 𝓛 (lasts next.ended (κ, tt) (r, tt) ws)) (fact 𝓤 (t ≡ stepAt s.now n)))
+  next_said : (t : Found) → ent 𝓤 (ensured 𝓛 next.ended (next.clauses 𝓛 mem run) (κ, tt) (r, tt) tt t) (fact 𝓤 (t ≡ step_at s.now n))
+  next_said t = ex_e 𝓤 _ (λ ws. snd∗ 𝓤 (sem 𝓛 (lasts next.ended (κ, tt) (r, tt) ws)) (fact 𝓤 (t ≡ step_at s.now n)))
 
   abbrev to-moved : (Moved 𝓛 mem run).Ghost
   to-moved = (((κ, tt), (q, tt), tt, (r, tt), (T'.lowered r ∷ [], tt)), tt)
@@ -120,8 +120,8 @@ module _ {M : Type 1} {𝓤 : Ura M} (𝓛 : Logic 𝓤) (mem : Memory → SProp
   abbrev Past : Reader → Type 0
   Past m = (m.sheet ≡ s) × (m.at ≡ after_of s.now n)
 
-  moved-said : (m : Reader) → ent 𝓤 (ensured 𝓛 moved.ended (moved.clauses 𝓛 mem run) (κ, tt) (r, tt) tt m) (fact 𝓤 (Past m))
-  moved-said m = ex_e 𝓤 _ (λ ws. snd∗ 𝓤 (sem 𝓛 (lasts moved.ended (κ, tt) (r, tt) ws)) (fact 𝓤 (Past m)))
+  moved_said : (m : Reader) → ent 𝓤 (ensured 𝓛 moved.ended (moved.clauses 𝓛 mem run) (κ, tt) (r, tt) tt m) (fact 𝓤 (Past m))
+  moved_said m = ex_e 𝓤 _ (λ ws. snd∗ 𝓤 (sem 𝓛 (lasts moved.ended (κ, tt) (r, tt) ws)) (fact 𝓤 (Past m)))
 
   -- the result: its machine value, its relation, and that it is the one that the contract names
   abbrev got : Found → Reader → Taken
@@ -133,14 +133,14 @@ module _ {M : Type 1} {𝓤 : Ura M} (𝓛 : Logic 𝓤) (mem : Memory → SProp
   fits : (m : Reader) (u : Val) → Is (B (κ, tt)) m (u ∷ []) → m.at < 2 ^ 64
   fits m u is = (LL.owed (T.the_type α) (T'.the_laws α) m _ is).1.0.1
 
-  is-got : (t : Found) (m : Reader) (u : Val) → Is S.the_row t (u ∷ []) → m.at < 2 ^ 64 → Is K.the_row (got t m) (mach u m ∷ [])
-  is-got t m u is ok = ((u ∷ [], (vint w64 m.at ∷ [], tt)), (refl, (is, ((refl, ok), tt))))
+  is_got : (t : Found) (m : Reader) (u : Val) → Is S.the_row t (u ∷ []) → m.at < 2 ^ 64 → Is K.the_row (got t m) (mach u m ∷ [])
+  is_got t m u is ok = ((u ∷ [], (vint w64 m.at ∷ [], tt)), (refl, (is, ((refl, ok), tt))))
 
-  taken : (t : Found) (m : Reader) → t ≡ stepAt s.now n → Past m → got t m ≡ takenAt s.now n
-  unfolding takenAt
+  taken : (t : Found) (m : Reader) → t ≡ step_at s.now n → Past m → got t m ≡ taken_at s.now n
+  unfolding taken_at
   taken t m e e₁ = λ i. record { found = e i; at = e₁.1 i }
 
-  exits : (g : Taken) (w : Val) → Is K.the_row g (w ∷ []) → g ≡ takenAt s.now n → ent 𝓤 (⋆ 𝓛 ((‵ (flft κ q) ⊛ ‵ ftrue) ∷ ‵ Own ∷ [])) (Post w)
+  exits : (g : Taken) (w : Val) → Is K.the_row g (w ∷ []) → g ≡ taken_at s.now n → ent 𝓤 (⋆ 𝓛 ((‵ (flft κ q) ⊛ ‵ ftrue) ∷ ‵ Own ∷ [])) (Post w)
   exits g w is e =
       qed 𝓛 ((‵ (flft κ q) ⊛ ‵ ftrue) ∷ ‵ Own ∷ []) ∵
       suffices ! _ (ends_at 𝓛 f.ended stayed (f.clauses 𝓛 mem run) (((κ, tt), (q, tt), tt, (s, (n, tt)), at), tt) w g (tt, (tt, tt)) (tt, (tt, tt))) $ says ! e $
@@ -161,7 +161,7 @@ module _ {M : Type 1} {𝓤 : Ura M} (𝓛 : Logic 𝓤) (mem : Memory → SProp
         -- [what `next` asks; what the struct owns; what s owns; room for _8; …; _7; …; _6; …; _5; …; _4; …; _3; …; _2; …; _1; …; room for _0; …]
         calls_at ! fm (Next 𝓛 mem run) known_next to-next (and_then ! (load ! (from ! (stop !)) (look ! 7 refl)) (no_more !)) (λ u.
         use1 𝓛 (later (some (λ (t : Found). ((‵ (flft κ q) ⊛ ‵ ftrue) ⊛ ‵ ((S.the_row).own_val t (u ∷ []))) ⊛ raw (ensured 𝓛 next.ended (next.clauses 𝓛 mem run) (κ, tt) (r, tt) tt t)))) (id⊢ 𝓤 _) $ await ! tt $ pick ! (λ t.
-        split ! $ move ! (1 ∷ []) $ use1 𝓛 (raw (fact 𝓤 (t ≡ stepAt s.now n))) (next-said t) $ heard ! (t ≡ stepAt s.now n) (λ e. split ! $ move ! (1 ∷ []) $
+        split ! $ move ! (1 ∷ []) $ use1 𝓛 (raw (fact 𝓤 (t ≡ step_at s.now n))) (next_said t) $ heard ! (t ≡ step_at s.now n) (λ e. split ! $ move ! (1 ∷ []) $
         peeks ! S.the_row (Is S.the_row) (shows 𝓛 S.the_row) t (u ∷ []) (λ is.
         land ! (from ! (stop !)) (init ! 12 refl ((EL.lawful S.the_type S'.the_laws 𝓛 tt).typed t _ is).0) $ drop ! $
         -- [the token; what the struct owns; what s owns; room for _8; …; room for _7; …; _6; …; room for _5; …; _4; …; _3; …; _2; …; _1; …; room for _0; …]
@@ -169,37 +169,37 @@ module _ {M : Type 1} {𝓤 : Ura M} (𝓛 : Logic 𝓤) (mem : Memory → SProp
         move ! (1 ∷ 0 ∷ []) $ use2 𝓛 (raw ((Moved 𝓛 mem run).pre to-moved)) goes $
         calls_at ! fm (Moved 𝓛 mem run) known-moved to-moved (and_then ! (load ! (from ! (stop !)) (look ! 4 refl)) (no_more !)) (λ u₁.
         use1 𝓛 (later (some (λ (m : Reader). ((‵ (flft κ q) ⊛ ‵ ftrue) ⊛ ‵ ((B (κ, tt)).own m (u₁ ∷ []))) ⊛ raw (ensured 𝓛 moved.ended (moved.clauses 𝓛 mem run) (κ, tt) (r, tt) tt m)))) (id⊢ 𝓤 _) $ await ! tt $ pick ! (λ m.
-        split ! $ move ! (1 ∷ []) $ use1 𝓛 (raw (fact 𝓤 (Past m))) (moved-said m) $ heard ! (Past m) (λ e₁. split ! $ move ! (1 ∷ []) $
+        split ! $ move ! (1 ∷ []) $ use1 𝓛 (raw (fact 𝓤 (Past m))) (moved_said m) $ heard ! (Past m) (λ e₁. split ! $ move ! (1 ∷ []) $
         peeks ! (B (κ, tt)) (Is (B (κ, tt))) (shows 𝓛 (B (κ, tt))) m (u₁ ∷ []) (λ is₁.
         land ! (from ! (stop !)) (init ! 9 refl ((LL.lawful (T.the_type αᵉ) (T'.the_laws αᵉ) 𝓛).typed m _ is₁).0) $
         -- the struct's machine value is spelled out, so that its number can be read
         rewrite ! 9 (λ (w : Val). ‵ (fat full_share (T'.mir erased) l₅ 0 w)) (ap only (LL.tells (T.the_type α) (T'.the_laws α) m (u₁ ∷ []) is₁)) refl $ drop ! $
         -- [the token; what s owns; room for _8; …; _7; …; _6; …; _5; …; _4; …; _3; …; _2; …; _1; …; room for _0; …]
         assigns ! (of_opd ! (load ! (from ! (fld ! refl (stop !))) (look_in ! 8 (sub ! 1 refl (whole !))))) (from ! (stop !)) (init ! 2 refl (tt, record { fits = fits m u₁ is₁ })) $
-        assigns ! (agg ! (and_then ! (load ! (from ! (stop !)) (look ! 10 refl)) (and_then ! (load ! (from ! (stop !)) (look ! 2 refl)) (no_more !)))) (from ! (stop !)) (init ! 18 refl ((LL.lawful K.the_type K'.the_laws 𝓛).typed (got t m) _ (is-got t m u is (fits m u₁ is₁))).0) $
+        assigns ! (agg ! (and_then ! (load ! (from ! (stop !)) (look ! 10 refl)) (and_then ! (load ! (from ! (stop !)) (look ! 2 refl)) (no_more !)))) (from ! (stop !)) (init ! 18 refl ((LL.lawful K.the_type K'.the_laws 𝓛).typed (got t m) _ (is_got t m u is (fits m u₁ is₁))).0) $
         returns ! (look ! 18 refl) $ forget ! 2 refl $ forget ! 4 refl $ forget ! 6 refl $ forget ! 8 refl $ forget ! 10 refl $ forget ! 12 refl $ forget ! 14 refl $ forget ! 16 refl $ forget ! 18 refl $
         move ! (18 ∷ 19 ∷ []) $ free1 ! $ move ! (16 ∷ 17 ∷ []) $ free1 ! $ move ! (14 ∷ 15 ∷ []) $ free1 ! $ move ! (12 ∷ 13 ∷ []) $ free1 ! $ move ! (10 ∷ 11 ∷ []) $ free1 ! $ move ! (8 ∷ 9 ∷ []) $ free1 ! $ move ! (6 ∷ 7 ∷ []) $ free1 ! $ move ! (4 ∷ 5 ∷ []) $ free1 ! $ move ! (2 ∷ 3 ∷ []) $ free1 ! $ free0 ! $
-        by ! (exits (got t m) (mach u m) (is-got t m u is (fits m u₁ is₁)) (taken t m e e₁)))))))))))))))))))
+        by ! (exits (got t m) (mach u m) (is_got t m u is (fits m u₁ is₁)) (taken t m e e₁)))))))))))))))))))
 
 module _ {M : Type 1} {𝓤 : Ura M} (𝓛 : Logic 𝓤) (mem : Memory → SProp 𝓤) (run : Routine → Fun 𝓤) where
   open 𝓛 use {H}
 
-  read-at-walks : (C : Calls 𝓤 H) (Λ : Loops 𝓤 H) → FmC 𝓤 H 𝓛.laws C → Triple 𝓤 (C #reader·next) (Next 𝓛 mem run) → Triple 𝓤 (C #reader·moved) (Moved 𝓛 mem run)
+  read_at_walks : (C : Calls 𝓤 H) (Λ : Loops 𝓤 H) → FmC 𝓤 H 𝓛.laws C → Triple 𝓤 (C #reader·next) (Next 𝓛 mem run) → Triple 𝓤 (C #reader·moved) (Moved 𝓛 mem run)
       → Walks 𝓛 f.ended stayed (WpFn 𝓤 H C Λ code.function) (f.clauses 𝓛 mem run)
-  read-at-walks C Λ fm known_next known-moved = walked 𝓛 f.ended stayed (f.clauses 𝓛 mem run) (WpFn 𝓤 H C Λ code.function) (λ κs. (shr_slice_vals, (uint_vals w64, tt))) (λ κs. (shr_slice_Tells (named 0) κs.0 u8, (uint_Tells w64, tt)))
+  read_at_walks C Λ fm known_next known-moved = walked 𝓛 f.ended stayed (f.clauses 𝓛 mem run) (WpFn 𝓤 H C Λ code.function) (λ κs. (shr_slice_vals, (uint_vals w64, tt))) (λ κs. (shr_slice_Tells (named 0) κs.0 u8, (uint_Tells w64, tt)))
       (λ κs qs bounds a g are. via 𝓤 _ (fst∗ 𝓤 _ (emp 𝓤)) (walk 𝓛 mem run κs.0 qs.0 a.0 a.1.0 are.1.0.1 C Λ fm known_next known-moved are.0))
 
-read-at-meets : {M : Type 1} {𝓤 : Ura M} (𝓛 : Logic 𝓤) (mem : Memory → SProp 𝓤) (run : Routine → Fun 𝓤) (𝓣 : Tables 𝓤 𝓛.H)
+read_at_meets : {M : Type 1} {𝓤 : Ura M} (𝓛 : Logic 𝓤) (mem : Memory → SProp 𝓤) (run : Routine → Fun 𝓤) (𝓣 : Tables 𝓤 𝓛.H)
     → Triple 𝓤 (𝓣.C #reader·next) (Next 𝓛 mem run) → Triple 𝓤 (𝓣.C #reader·moved) (Moved 𝓛 mem run)
     → Meets 𝓛 f.signature (WpFn 𝓤 𝓛.H 𝓣.C 𝓣.Λ code.function) (f.spec 𝓛 mem run)
-read-at-meets {𝓤 = 𝓤} 𝓛 mem run 𝓣 known_next known-moved = walk_Meets 𝓛 f.ended stayed (Goes-none_slice 𝓛 1 (0 ∷ []) tt (plain (λ _. u8)) yes, (Goes-none 𝓛 1 (λ _. usize) yes (λ κs x f. refl), tt)) (f.clauses 𝓛 mem run) (WpFn 𝓤 𝓛.H 𝓣.C 𝓣.Λ code.function) (WpFn-mono 𝓤 𝓛.H 𝓛.laws 𝓣 code.function)
-    (read-at-walks 𝓛 mem run 𝓣.C 𝓣.Λ (fm_of 𝓤 𝓛.H 𝓛.laws 𝓣) known_next known-moved)
+read_at_meets {𝓤 = 𝓤} 𝓛 mem run 𝓣 known_next known-moved = walk_Meets 𝓛 f.ended stayed (Goes-none_slice 𝓛 1 (0 ∷ []) tt (plain (λ _. u8)) yes, (Goes-none 𝓛 1 (λ _. usize) yes (λ κs x f. refl), tt)) (f.clauses 𝓛 mem run) (WpFn 𝓤 𝓛.H 𝓣.C 𝓣.Λ code.function) (WpFn-mono 𝓤 𝓛.H 𝓛.laws 𝓣 code.function)
+    (read_at_walks 𝓛 mem run 𝓣.C 𝓣.Λ (fm_of 𝓤 𝓛.H 𝓛.laws 𝓣) known_next known-moved)
 
-pub read-at-spec : {M : Type 1} → stated.statement M
+pub read_at_spec : {M : Type 1} → stated.statement M
 unfolding code.routine tables_of
-read-at-spec 𝓤 𝓛 𝓜 𝓡 =
+read_at_spec 𝓤 𝓛 𝓜 𝓡 =
     entered 𝓤 𝓛.H (triple_of 𝓛 f.signature (f.spec 𝓛 𝓜.mem 𝓡.run))
     (tables 𝓤 𝓛.H 𝓜 𝓡 code.env).C (tables 𝓤 𝓛.H 𝓜 𝓡 code.env).Λ #reader·read-at code.function (code.unfolded 𝓤 𝓛.H 𝓜 𝓡)
-    (read-at-meets 𝓛 𝓜.mem 𝓡.run (tables_of 𝓤 𝓛.H 𝓜 (tables 𝓤 𝓛.H 𝓜 𝓡 code.env))
+    (read_at_meets 𝓛 𝓜.mem 𝓡.run (tables_of 𝓤 𝓛.H 𝓜 (tables 𝓤 𝓛.H 𝓜 𝓡 code.env))
     (cited 𝓤 𝓛.H (Next 𝓛 𝓜.mem 𝓡.run) 𝓜 𝓡 code.env #reader·next next-def.routine code.calls-sheet::reader::next (next-thm.met 𝓤 𝓛 𝓜 𝓡))
     (cited 𝓤 𝓛.H (Moved 𝓛 𝓜.mem 𝓡.run) 𝓜 𝓡 code.env #reader·moved moved-def.routine code.calls-sheet::reader::moved (moved-thm.met 𝓤 𝓛 𝓜 𝓡)))

@@ -9,5 +9,5 @@ returns c = rw (lt-ltb _ _ c.if1.true)
 returns-2 : tie.Need-returns-2
 returns-2 c = rw (le-ltb _ _ c.if1.false)
 
-pub delivered-spec : {M : Type 1} → statement M
-delivered-spec = tie.close (tie.spec returns returns-2)
+pub delivered_spec : {M : Type 1} → statement M
+delivered_spec = tie.close (tie.spec returns returns-2)

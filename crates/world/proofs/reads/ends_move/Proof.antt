@@ -14,5 +14,5 @@ returns-2 c = rw (← c.before.before.before.read-u16.ensures, ne_eqb _ _ c.befo
 returns-3 : tie.Need-returns-3
 returns-3 c = rw (← c.before.before.before.read-u16.ensures, ne_eqb _ _ c.before.before.if1.false, ← c.before.read-u162.ensures, eq-eqb _ _ c.if2.false)
 
-pub ends-move-spec : {M : Type 1} → statement M
-ends-move-spec = tie.close (tie.spec (λ c. search rules) (λ c κs. tt) returns (λ c κs. tt) returns-2 returns-3)
+pub ends_move_spec : {M : Type 1} → statement M
+ends_move_spec = tie.close (tie.spec (λ c. search rules) (λ c κs. tt) returns (λ c κs. tt) returns-2 returns-3)

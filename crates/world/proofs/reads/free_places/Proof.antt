@@ -3,14 +3,14 @@ use mathlib.Core.Path.{◌≡◌}
 use Prim.Native.Nat.{◌-◌, ◌≤◌}
 use native.Mathlib.Omega.{arith}
 use borrow.Author.Rules.{rules}
-use Rattle.world.specs.Commits.{freeRows}
+use Rattle.world.specs.Commits.{free_rows}
 use Rattle.rules.proofs.Lists.{byte-is, byte_le}
 use Rattle.world.proofs.Places.{rows_more, rows_none}
 use Rattle.world.proofs.reads.free_places.Statement.{statement}
 use Rattle.world.proofs.reads.free_places.Tie as tie
 
 abbrev invariant-loop : tie.invariant-loop
-invariant-loop w n₀ p₀ n p = (n ≡ freeRows w p) × ((n ≤ p) × (p ≤ 256))
+invariant-loop w n₀ p₀ n p = (n ≡ free_rows w p) × ((n ≤ p) × (p ≤ 256))
 
 abbrev decreases-loop : tie.decreases-loop
 decreases-loop w n₀ p₀ n p = 256 - p
@@ -28,5 +28,5 @@ returns c =
     let z : l.p ≡ 256 = omega arith in
     (rw z at l.invariant.0, omega arith)
 
-pub free-places-spec : {M : Type 1} → statement M
-free-places-spec = tie.close (tie.spec invariant-loop decreases-loop (λ c. (rows_none _, omega arith)) (λ c κs. search rules) (λ c. tt) (λ c. omega (arith, byte_le c.is_free.result)) (λ c. search rules) (λ c. search rules) loop-again returns)
+pub free_places_spec : {M : Type 1} → statement M
+free_places_spec = tie.close (tie.spec invariant-loop decreases-loop (λ c. (rows_none _, omega arith)) (λ c κs. search rules) (λ c. tt) (λ c. omega (arith, byte_le c.is_free.result)) (λ c. search rules) (λ c. search rules) loop-again returns)

@@ -2,8 +2,8 @@
 use borrow.Author.Rules.{rules}
 use Rattle.state.specs.Meaning.{part_of}
 use Rattle.locality.specs.Narrow.{move}
-use Rattle.image.proofs.Meaning.{transfer-read}
-use Rattle.world.proofs.Good.{part-is, generators-shown, transfers-shown}
+use Rattle.image.proofs.Meaning.{transfer_read}
+use Rattle.world.proofs.Good.{part_is, generators_shown, transfers_shown}
 use Rattle.world.proofs.reads.part_at.Statement.{statement}
 use Rattle.world.proofs.reads.part_at.Tie as tie
 
@@ -16,10 +16,10 @@ returns c =
     let a = seat.before.before.before in
     let b = a.args.w.now in
     let m = move a.args.o a.args.n in
-    part-is b a.requires.0 a.args.s a.requires.1 a.args.v m _ _ _ seat.before.head_at.ensures
-    (generators-shown b a.requires.0 a.args.s a.requires.1 a.args.v m _ _ _ seat.generator-seat.ensures shown.is-filled.ensures seat2.before.generator-in.ensures)
-    (transfers-shown b a.requires.0 a.args.s a.requires.1 a.args.v a.args.o a.args.n _ _ _
-    seat2.transfer-seat.ensures c.before.is-filled2.ensures (transfer-read _ _ c.transfer-at.ensures))
+    part_is b a.requires.0 a.args.s a.requires.1 a.args.v m _ _ _ seat.before.head_at.ensures
+    (generators_shown b a.requires.0 a.args.s a.requires.1 a.args.v m _ _ _ seat.generator-seat.ensures shown.is-filled.ensures seat2.before.generator-in.ensures)
+    (transfers_shown b a.requires.0 a.args.s a.requires.1 a.args.v a.args.o a.args.n _ _ _
+    seat2.transfer-seat.ensures c.before.is-filled2.ensures (transfer_read _ _ c.transfer-at.ensures))
 
-pub part-at-spec : {M : Type 1} → statement M
-part-at-spec = tie.close (tie.spec (λ c. search rules) (λ c κs. tt) (λ c. search rules) (λ c κs. search rules) (λ c. search rules) (λ c. search rules) (λ c. search rules) (λ c κs. tt) (λ c. search rules) (λ c. search rules) (λ c. search rules) (λ c κs. tt) (λ c. search rules) (λ c κs. search rules) (λ c. search rules) (λ c. search rules) (λ c. search rules) (λ c. search rules) (λ c κs. tt) (λ c. search rules) (λ c. search rules) (λ c. search rules) (λ c κs. tt) returns)
+pub part_at_spec : {M : Type 1} → statement M
+part_at_spec = tie.close (tie.spec (λ c. search rules) (λ c κs. tt) (λ c. search rules) (λ c κs. search rules) (λ c. search rules) (λ c. search rules) (λ c. search rules) (λ c κs. tt) (λ c. search rules) (λ c. search rules) (λ c. search rules) (λ c κs. tt) (λ c. search rules) (λ c κs. search rules) (λ c. search rules) (λ c. search rules) (λ c. search rules) (λ c. search rules) (λ c κs. tt) (λ c. search rules) (λ c. search rules) (λ c. search rules) (λ c κs. tt) returns)

@@ -2,25 +2,25 @@
 use Prim.Native.Nat.{◌-◌}
 use mathlib.Core.Path.{sym, ◌∙◌}
 use borrow.Author.Rules.{rules}
-use Rattle.world.specs.Commits.{endsMove}
-use Rattle.world.proofs.Lists.{Missed, missed-none, missed_more, found_first, found_none}
+use Rattle.world.specs.Commits.{ends_move}
+use Rattle.world.proofs.Lists.{Missed, missed_none, missed_more, found_first, found_none}
 use Rattle.world.proofs.reads.transfer_seat.Statement.{statement}
 use Rattle.world.proofs.reads.transfer_seat.Tie as tie
 
 abbrev invariant-loop : tie.invariant-loop
-invariant-loop w at o n i₀ i = Missed 8 (endsMove w at o n) i
+invariant-loop w at o n i₀ i = Missed 8 (ends_move w at o n) i
 
 abbrev decreases-loop : tie.decreases-loop
 decreases-loop w at o n i₀ i = 8 - i
 
 returns : tie.Need-returns invariant-loop decreases-loop
-returns c = found_first c.before.before.before.loop.invariant c.before.before.loop-test.true (unfold endsMove in (sym c.before.ends-move.ensures ∙ c.if1.true))
+returns c = found_first c.before.before.before.loop.invariant c.before.before.loop-test.true (unfold ends_move in (sym c.before.ends-move.ensures ∙ c.if1.true))
 
 loop-again : tie.Need-loop-preserved invariant-loop decreases-loop
-loop-again c = missed_more c.before.before.before.loop.invariant c.before.before.loop-test.true (unfold endsMove in (sym c.before.ends-move.ensures ∙ c.if1.false))
+loop-again c = missed_more c.before.before.before.loop.invariant c.before.before.loop-test.true (unfold ends_move in (sym c.before.ends-move.ensures ∙ c.if1.false))
 
 returns-2 : tie.Need-returns-2 invariant-loop decreases-loop
 returns-2 c = found_none c.before.loop.invariant c.loop-test.false
 
-pub transfer-seat-spec : {M : Type 1} → statement M
-transfer-seat-spec = tie.close (tie.spec invariant-loop decreases-loop (λ c. missed-none) (λ c. search rules) (λ c. search rules) (λ c κs. search rules) returns (λ c. search rules) (λ c. search rules) loop-again returns-2)
+pub transfer_seat_spec : {M : Type 1} → statement M
+transfer_seat_spec = tie.close (tie.spec invariant-loop decreases-loop (λ c. missed_none) (λ c. search rules) (λ c. search rules) (λ c κs. search rules) returns (λ c. search rules) (λ c. search rules) loop-again returns-2)

@@ -2,7 +2,7 @@
 use Prim.Native.Nat.{◌<◌}
 use native.Mathlib.Omega.{arith}
 use borrow.Author.Rules.{rules}
-use Rattle.world.proofs.Tracing.{found-facts, few-found, steps-long, started, misfit, left-bad, left-full, left-good}
+use Rattle.world.proofs.Tracing.{found_facts, few_found, steps_long, started, misfit, left-bad, left-full, left_good}
 use Rattle.world.proofs.run.trace.Statement.{statement}
 use Rattle.world.proofs.run.trace.Tie as tie
 
@@ -22,7 +22,7 @@ mul-if3 : tie.Need-overflow-mul-if3
 mul-if3 c =
     let check = c.before.before in
     let b = check.before.before.before.before.before.args.sheet.now in
-    omega (arith, few-found b check.check.result check.check.ensures c.before.if2.false)
+    omega (arith, few_found b check.check.result check.check.ensures c.before.if2.false)
 
 returns-3 : tie.Need-returns-3
 returns-3 c =
@@ -36,8 +36,8 @@ returns-3 c =
 small : (c : tie.After-struct-known) → c.before.before.check.result.mask < 256
 small c = search rules
 
-turns-requires : tie.Need-turns-requires
-turns-requires c κs =
+turns_requires : tie.Need-turns-requires
+turns_requires c κs =
     let begun = c.before.before.before.before in
     let known = begun.before.before.before in
     let good = known.before in
@@ -45,13 +45,13 @@ turns-requires c κs =
     let fits = check.before in
     let a = fits.before.before.before.before.args in
     let s = check.check.result in
-    let f = found-facts a.sheet.now s check.check.ensures good.if2.false in (
+    let f = found_facts a.sheet.now s check.check.ensures good.if2.false in (
       (
         (started a.sheet.now s.mask f.0 f.1 (small known) a.world.now begun.start.new.0 begun.start.result fits.if1.false
             begun.start.ensures).0,
         f.0,
       ),
-      omega (arith, steps-long a.sheet.now s check.check.ensures good.if2.false, begun.before.before.if3.false),
+      omega (arith, steps_long a.sheet.now s check.check.ensures good.if2.false, begun.before.before.if3.false),
     )
 
 returns-4 : tie.Need-returns-4
@@ -64,15 +64,15 @@ returns-4 c =
     let fits = check.before in
     let a = fits.before.before.before.before.args in
     let s = check.check.result in
-    let f = found-facts a.sheet.now s check.check.ensures good.if2.false in
+    let f = found_facts a.sheet.now s check.check.ensures good.if2.false in
     let v = begun.start.new.0 in
     let is = (started a.sheet.now s.mask f.0 f.1 (small roomy.before) a.world.now v begun.start.result fits.if1.false
     begun.start.ensures).1.0 in
-    left-good a.sheet.now a.world.now a.rows.now fits.if1.false s check.check.ensures good.if2.false roomy.if3.false v _ _ is
+    left_good a.sheet.now a.world.now a.rows.now fits.if1.false s check.check.ensures good.if2.false roomy.if3.false v _ _ is
     ran.turns.ensures
 
-pub trace-spec : {M : Type 1} → statement M
-trace-spec =
+pub trace_spec : {M : Type 1} → statement M
+trace_spec =
     tie.close
     (tie.spec
     returns
@@ -81,7 +81,7 @@ trace-spec =
     mul-if3
     returns-3
     (λ c κs. tt)
-    turns-requires
+    turns_requires
     (λ c. search rules)
     (λ c. search rules)
     returns-4)

@@ -4,26 +4,26 @@ use mathlib.Core.List.{◌∷◌}
 use native.Mathlib.Omega.{arith}
 use lib.ListN.{length}
 use borrow.Author.Rules.{rules}
-use Rattle.layout.specs.Image.{worldAt}
+use Rattle.layout.specs.Image.{world_at}
 use Rattle.layout.proofs.World.{good_length}
-use Rattle.sheet.specs.Reading.{stepsFrom}
-use Rattle.sheet.proofs.Walk.{taken_step, taken-end}
-use Rattle.world.proofs.Tracing.{Tracing, tracing-none, tracing-more, tracing-all}
+use Rattle.sheet.specs.Reading.{steps_from}
+use Rattle.sheet.proofs.Walk.{taken_step, taken_end}
+use Rattle.world.proofs.Tracing.{Tracing, tracing_none, tracing_more, tracing_all}
 use Rattle.world.proofs.run.turns.Statement.{statement}
 use Rattle.world.proofs.run.turns.Tie as tie
 
 abbrev invariant-loop : tie.invariant-loop
-invariant-loop sheet w₀ rows₀ from₀ at₀ w rows from at = Tracing (worldAt w₀) (stepsFrom sheet 6) rows₀ w rows at (stepsFrom sheet from)
+invariant-loop sheet w₀ rows₀ from₀ at₀ w rows from at = Tracing (world_at w₀) (steps_from sheet 6) rows₀ w rows at (steps_from sheet from)
 
 abbrev decreases-loop : tie.decreases-loop
-decreases-loop sheet w₀ rows₀ from₀ at₀ w rows from at = length (stepsFrom sheet from)
+decreases-loop sheet w₀ rows₀ from₀ at₀ w rows from at = length (steps_from sheet from)
 
 -- the step that was read, and those past it
 step-read : (c : tie.After-turn invariant-loop decreases-loop) →
     let r = c.before.before.before.before.before.before in
     let l = r.before in
     let b = l.before.before.before.before.args.sheet.now in
-    stepsFrom b l.loop.from ≡ c.before.before.before.before.found.given.0.0 ∷ stepsFrom b r.read_at.result.at
+    steps_from b l.loop.from ≡ c.before.before.before.before.found.given.0.0 ∷ steps_from b r.read_at.result.at
 step-read c =
     let r = c.before.before.before.before.before.before in
     let l = r.before in
@@ -31,7 +31,7 @@ step-read c =
     taken_step l.before.before.before.before.args.sheet.now l.loop.from r.read_at.result r.read_at.ensures k.0.0 k.1
 
 loop-holds : tie.Need-loop-init invariant-loop decreases-loop
-loop-holds c = let s = c.before.before.before in tracing-none s.requires.0.0 s.requires.1
+loop-holds c = let s = c.before.before.before in tracing_none s.requires.0.0 s.requires.1
 
 same_length : tie.Need-same-length invariant-loop decreases-loop
 same_length c =
@@ -42,8 +42,8 @@ returns : tie.Need-returns invariant-loop decreases-loop
 returns c =
     let r = c.before.before in
     let l = r.before in
-    tracing-all l.loop.invariant
-    (taken-end l.before.before.before.before.args.sheet.now l.loop.from r.read_at.result r.read_at.ensures c.enum_told.given.1)
+    tracing_all l.loop.invariant
+    (taken_end l.before.before.before.before.args.sheet.now l.loop.from r.read_at.result r.read_at.ensures c.enum_told.given.1)
 
 add_at : tie.Need-overflow-add-at invariant-loop decreases-loop
 add_at c =
@@ -58,10 +58,10 @@ loop-again : tie.Need-loop-preserved invariant-loop decreases-loop
 loop-again c =
     let done = c.before.before.before.before in
     let l = done.before.before.before.before.before.before.before in
-    tracing-more l.loop.invariant _ _ _ _ (step-read done) done.turn.ensures
+    tracing_more l.loop.invariant _ _ _ _ (step-read done) done.turn.ensures
 
-pub turns-spec : {M : Type 1} → statement M
-turns-spec =
+pub turns_spec : {M : Type 1} → statement M
+turns_spec =
     tie.close
     (tie.spec
     invariant-loop

@@ -4,17 +4,17 @@ use lib.ListN.{length}
 use borrow.Author.Rules.{rules}
 use borrow.Author.Tests.{lt-ltb, le-ltb}
 use Rattle.rows.proofs.Laws.{placed-length}
-use Rattle.world.specs.Commits.{freedAt}
+use Rattle.world.specs.Commits.{freed_at}
 use Rattle.world.proofs.Places.{put-free}
 use Rattle.world.proofs.writes.free.Statement.{statement}
 use Rattle.world.proofs.writes.free.Tie as tie
 
 returns : tie.Need-returns
-unfolding freedAt
+unfolding freed_at
 returns c W long e = e ∙ rw (le-ltb _ _ c.if1.true)
 
 returns-2 : tie.Need-returns-2
-unfolding freedAt
+unfolding freed_at
 returns-2 c W long e =
     let t = c.before.before.before.before in
     let a = t.before.before in

@@ -7,17 +7,17 @@ use native.Mathlib.Omega.{arith}
 use borrow.Author.Rules.{rules}
 use Rattle.rules.specs.Sets.{inside}
 use Rattle.rules.specs.State.{Transfer}
-use Rattle.layout.specs.Layout.{transferWidth}
-use Rattle.layout.specs.Image.{transferAt}
-use Rattle.state.specs.Meaning.{transferOf}
+use Rattle.layout.specs.Layout.{transfer_width}
+use Rattle.layout.specs.Image.{transfer_at}
+use Rattle.state.specs.Meaning.{transfer_of}
 use Rattle.rules.proofs.Lists.{map-set}
-use Rattle.image.proofs.Meaning.{transfer-read}
-use Rattle.world.proofs.Kept.{KeptTo, kept-none, kept-yes, kept-no, kept-all}
+use Rattle.image.proofs.Meaning.{transfer_read}
+use Rattle.world.proofs.Kept.{KeptTo, kept-none, kept_yes, kept_no, kept-all}
 use Rattle.world.proofs.writes.kept_transfers.Statement.{statement}
 use Rattle.world.proofs.writes.kept_transfers.Tie as tie
 
 abbrev invariant-loop : tie.invariant-loop
-invariant-loop w at v of₀ n₀ i₀ of n i = KeptTo w at v i n (map transferOf of)
+invariant-loop w at v of₀ n₀ i₀ of n i = KeptTo w at v i n (map transfer_of of)
 
 abbrev decreases-loop : tie.decreases-loop
 decreases-loop w at v of₀ n₀ i₀ of n i = 8 - i
@@ -25,13 +25,13 @@ decreases-loop w at v of₀ n₀ i₀ of n i = 8 - i
 few : tie.Need-overflow-add-n invariant-loop decreases-loop
 few c = let k = c.before.before.before.before.loop.invariant.few in omega arith
 
-is-inside : (c : tie.After-inside invariant-loop decreases-loop)
+is_inside : (c : tie.After-inside invariant-loop decreases-loop)
     → let a = c.before.before.before.before.before.before.args in
-    c.inside.result ≡ inside a.v (transferAt a.w.now (a.at + c.before.before.before.loop.i * transferWidth)).new
-unfolding transferOf
-is-inside c =
+    c.inside.result ≡ inside a.v (transfer_at a.w.now (a.at + c.before.before.before.loop.i * transfer_width)).new
+unfolding transfer_of
+is_inside c =
     let v = c.before.before.before.before.before.before.args.v in
-    c.inside.ensures ∙ ap (λ (t : Transfer). inside v t.new) (transfer-read _ _ c.before.transfer-at.ensures)
+    c.inside.ensures ∙ ap (λ (t : Transfer). inside v t.new) (transfer_read _ _ c.before.transfer-at.ensures)
 
 small : (c : tie.Then1 invariant-loop decreases-loop) → c.before.before.before.before.loop.n < 8
 small c =
@@ -45,12 +45,12 @@ loop-again c =
     let l = read.before.before.loop.invariant in
     let h = read.before.loop-test.true in
     ⊎_elim
-    (λ w. rw (w.1, w.2, map-set) (kept-yes l h _ (transfer-read _ _ read.transfer-at.ensures) (sym (is-inside c.before) ∙ w.0.taken)))
-    (λ w. rw (w.1, w.2) (kept-no l h (sym (is-inside c.before) ∙ w.0.left)))
+    (λ w. rw (w.1, w.2, map-set) (kept_yes l h _ (transfer_read _ _ read.transfer-at.ensures) (sym (is_inside c.before) ∙ w.0.taken)))
+    (λ w. rw (w.1, w.2) (kept_no l h (sym (is_inside c.before) ∙ w.0.left)))
     c.if1.branch
 
 returns : tie.Need-returns invariant-loop decreases-loop
 returns c = kept-all c.before.loop.invariant c.loop-test.false
 
-pub kept-transfers-spec : {M : Type 1} → statement M
-kept-transfers-spec = tie.close (tie.spec invariant-loop decreases-loop (λ c κs. tt) (λ c. kept-none _ c.blank.ensures) (λ c. search rules) (λ c. search rules) (λ c κs. tt) (λ c κs. tt) (λ c. let h = small c in record { fits = omega arith }) small few (λ c. search rules) (λ c. search rules) loop-again returns)
+pub kept_transfers_spec : {M : Type 1} → statement M
+kept_transfers_spec = tie.close (tie.spec invariant-loop decreases-loop (λ c κs. tt) (λ c. kept-none _ c.blank.ensures) (λ c. search rules) (λ c. search rules) (λ c κs. tt) (λ c κs. tt) (λ c. let h = small c in record { fits = omega arith }) small few (λ c. search rules) (λ c. search rules) loop-again returns)
