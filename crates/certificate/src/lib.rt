@@ -1,1 +1,3 @@
 // What an inspector asks of every public function: proofs only
+#![tactic(auto)]
+

@@ -1,4 +1,6 @@
 // Document 01, "Delivery at a desk", and READ and WRITE: what a desk answers to each thing that is put to it.
+#![tactic(auto)]
+
 ghost use Rattle.std.specs.Prelude.{◌≡◌, [], ◌<◌};
 ghost use Rattle.rules.specs.Sets.{if◌then◌else◌, inside};
 ghost use Rattle.rules.specs.Messages.{Refusal, number, not_now, refused, does, quietly};

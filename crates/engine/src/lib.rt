@@ -1,4 +1,6 @@
 // The engine for C and Rust: byte slices and numbers only. A slice passes as a pointer and then a length. c/engine.h has what a caller owes.
+#![tactic(auto)]
+
 ghost use Rattle.std.specs.Prelude.{◌≡◌};
 ghost use Rattle.rows.specs.Bytes.{placed, be32};
 ghost use Rattle.layout.specs.Lent.{lent_start};

@@ -1,4 +1,6 @@
 // The rules at one generator: Propose, Proposal, Converged. Document 01, "Delivery at a relay".
+#![tactic(auto)]
+
 ghost use Rattle.std.specs.Prelude.{◌≡◌, [], ◌∷◌};
 ghost use Rattle.views.specs.Row.{views_of};
 ghost use Rattle.rules.specs.Generators as rules;

@@ -1,5 +1,7 @@
 // Document 01, "The world": whether a lent buffer is a good world. Each row is read, what it means is tested by the rules' own conditions, and what was read
 // is written to a row of its own and compared, so that no byte is left unseen.
+#![tactic(auto)]
+
 ghost use Rattle.std.specs.Prelude.{◌≡◌};
 ghost use Rattle.layout.specs.Image.{good_bytes};
 

@@ -1,6 +1,8 @@
 // The world's parts in the rows of a lent buffer: each read, and each written over its row. Document 01, "The world"; where each field stands is crate layout. Every
 // function is total: past the end a buffer reads zero, and a row that does not fit wholly is not written. A row past the end is read as one that begins at the
 // end, so that what is added to its index stays in range.
+#![tactic(auto)]
+
 ghost use Rattle.std.specs.Prelude.{◌≡◌, [], ◌+◌, ◌≤◌, length};
 ghost use Rattle.rows.specs.Bytes.{placed};
 ghost use Rattle.views.specs.Row.{views_of};

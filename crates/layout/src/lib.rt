@@ -1,5 +1,7 @@
 // A world in bytes: where each field of a row stands, and how wide each row is, as specs/Layout.antt has it. A row's fields in their order, each where the one
 // before it ends.
+#![tactic(auto)]
+
 
 // ---- How wide one field is: a flag, a small number or a set of relays; a view, a try or a count; a value
 

@@ -1,4 +1,6 @@
 // The messages' bodies, and to whom they are sent. Document 01, "Steps", "Delivery at a relay", "Delivery at a desk".
+#![tactic(auto)]
+
 ghost use Rattle.std.specs.Prelude.{◌≡◌, [], ◌∷◌};
 ghost use Rattle.views.specs.Row.{views_of};
 ghost use Rattle.rules.specs.Sets.{members, joined};

@@ -1,5 +1,7 @@
 // The printed record, byte by byte into a lent buffer. What does not fit is not written, but counted: a position may pass the buffer's end.
 // Document 01, "Sheets and the printed record".
+#![tactic(auto)]
+
 ghost use Rattle.std.specs.Prelude.{◌≡◌, [], ◌∷◌};
 ghost use Rattle.rules.specs.Runs.{decimal, line, start_of, end_of, bad_of};
 ghost use Rattle.record.specs.Lines.{laid, past, step_of};

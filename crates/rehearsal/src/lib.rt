@@ -1,4 +1,6 @@
 // A rehearsal: a sheet's run in the world's buffer, and its printed record, laid from the run's trace. Document 01, "Sheets and the printed record".
+#![tactic(auto)]
+
 ghost use Rattle.std.specs.Prelude.{◌≡◌, true, false, ◌+◌, ◌*◌, ◌≤◌, length, get_or};
 ghost use Rattle.rules.specs.State.{World, start};
 ghost use Rattle.rules.specs.Sending.{waiting_in};
@@ -20,7 +22,7 @@ use world::run::{
 // ---- lines
 
 // The position past the lines, and what the accepted steps delivered and dropped.
-#[derive(Drop)]
+#[derive(Clone, Copy)]
 struct Tally {
     at: usize,
     delivered: u32,
@@ -119,7 +121,7 @@ fn play(sheet: &[u8], mask: u8, w: &mut [u8], out: &mut [u8]) -> usize
 }
 
 // The answer, and how many bytes of a record stand in the buffer for it.
-#[derive(Drop)]
+#[derive(Clone, Copy)]
 pub struct Rehearsed {
     pub answer: u8,
     pub length: usize,

@@ -3,12 +3,14 @@
 // No promise covers what is read and written: that the sheet is what stood at standard input, and that what is handed to the C library reaches standard output,
 // is the word of the C library and of the system. A call that a signal interrupts before it moves a byte counts as one that failed.
 // A program has no exit status in this language. What failed is told on standard error; a sheet that could not be read has no record, not even `bad 9`.
+#![tactic(auto)]
+
 ghost use Rattle.std.specs.Prelude.{◌≤◌, length};
 
 use libc::{STDERR_FILENO, STDIN_FILENO, STDOUT_FILENO};
 
 // How many bytes were read, and whether a read failed there.
-#[derive(Drop)]
+#[derive(Clone, Copy)]
 struct Input {
     failed: bool,
     length: usize,

@@ -1,5 +1,7 @@
 // Numbers high byte first and rows of equal width in a lent slice. Every function is total: past the end a slice reads zero, and a
 // write that does not fit wholly writes nothing. Document 01, "The world" and "Sheets and the printed record".
+#![tactic(auto)]
+
 ghost use Rattle.std.specs.Prelude.{◌≡◌, [], ◌∷◌, ◌+◌, ◌≤◌, min, leb, length, get_or};
 ghost use Rattle.rows.specs.Bytes.{placed, bytes_of, fields_of, sum, be16, u16_at, u32_at, zeros};
 ghost use Rattle.rows.specs.Tests.{all_zero};

@@ -1,4 +1,6 @@
 // Document 01's rules are definitions: specs/, in document 01's order. Here stand the values that code and rules share as they are.
+#![tactic(auto)]
+
 ghost use Rattle.std.specs.Prelude.{◌≡◌};
 ghost use Rattle.rules.specs.Desks.{cleared, begun, ended};
 
@@ -52,7 +54,7 @@ pub const DROP: u8 = 7;
 pub const CRASH: u8 = 8;
 
 // A step as a sheet has it.
-#[derive(Drop)]
+#[derive(Clone, Copy)]
 pub struct Step {
     pub kind: u8,
     pub id: u8,
@@ -60,7 +62,7 @@ pub struct Step {
 }
 
 // "phase (idle, read 1, read 2, write 1, write 2)"
-#[derive(Drop)]
+#[derive(Clone, Copy)]
 pub enum Phase {
     Idle,
     Read1,
@@ -71,7 +73,7 @@ pub enum Phase {
 
 // "Desk: alive, view, phase [..], try 0..65,535, value, stamp, who replied, best reply, whether all stamps agreed."
 // `tries` is the try, `holds` its stamp and value.
-#[derive(Drop)]
+#[derive(Clone, Copy)]
 pub struct Desk {
     pub alive: bool,
     pub view: u16,

@@ -1,1 +1,3 @@
 // Demand 3 over the rules: proofs only
+#![tactic(auto)]
+

@@ -1,4 +1,6 @@
 // Sheets: bytes are checked, read from the front one step at a time, and written. Document 01, "Sheets and the printed record".
+#![tactic(auto)]
+
 ghost use Rattle.std.specs.Prelude.{◌≡◌, ◌≤◌, length, drop};
 ghost use Rattle.rows.specs.Bytes.{placed};
 ghost use Rattle.rules.specs.Sheets.{version1, marked, header_width, header_bytes, all_zeros_in, step_bytes, steps_bytes, sheet_width, number};
@@ -33,20 +35,20 @@ const VALUE_AT: usize = 4;
 // "over 8,000 steps"
 const MOST: usize = 8000;
 
-#[derive(Drop)]
+#[derive(Clone, Copy)]
 pub struct Sheet {
     pub bad: bool,
     pub mask: u8,
     pub steps: usize,
 }
 
-#[derive(Drop)]
+#[derive(Clone, Copy)]
 pub enum Found {
     At(Step),
     End,
 }
 
-#[derive(Drop)]
+#[derive(Clone, Copy)]
 pub enum Written {
     // How many bytes the sheet has.
     Done(usize),

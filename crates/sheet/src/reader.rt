@@ -5,14 +5,14 @@ ghost use Rattle.sheet.specs.Reading.{front_of, step_at, after_of, taken_at};
 
 use super::{Found, after, front, step_at};
 
-#[derive(Drop)]
+#[derive(Clone, Copy)]
 pub struct Reader<'a> {
     pub sheet: &'a [u8],
     pub at: usize,
 }
 
 // What is read at a position, and the position past it.
-#[derive(Drop)]
+#[derive(Clone, Copy)]
 pub struct Taken {
     pub found: Found,
     pub at: usize,

@@ -1,14 +1,16 @@
 // Stamps, their order, and the greatest of the pairs of a stamp and a value. Document 01, "Sets and sequences" and "Delivery at a relay".
+#![tactic(auto)]
+
 ghost use Rattle.std.specs.Prelude.{◌≡◌};
 ghost use Rattle.stamps.specs.Stamp.{sign_of, compared_of, greater_of, same_of, greatest_of, fresh_pair};
 
-#[derive(Drop)]
+#[derive(Clone, Copy)]
 pub struct Stamp {
     pub count: u16,
     pub desk: u8,
 }
 
-#[derive(Drop)]
+#[derive(Clone, Copy)]
 pub struct Pair {
     pub stamp: Stamp,
     pub value: u32,

@@ -1,14 +1,16 @@
 // The world's parts as the code holds them, by value. What each means is in specs/Meaning.antt.
+#![tactic(auto)]
+
 use stamps::Pair;
 use views::Sequence;
 
 // The last sequence heard from each of the eight.
-#[derive(Drop)]
+#[derive(Clone, Copy)]
 pub struct Notes {
     pub of: [Sequence; 8],
 }
 
-#[derive(Drop)]
+#[derive(Clone, Copy)]
 pub struct Generator {
     pub view: u16,
     pub own: Sequence,
@@ -18,7 +20,7 @@ pub struct Generator {
     pub convergences: Notes,
 }
 
-#[derive(Drop)]
+#[derive(Clone, Copy)]
 pub struct Transfer {
     pub old: u16,
     pub new: u16,
@@ -29,7 +31,7 @@ pub struct Transfer {
 }
 
 // A relay without its generators and transfers.
-#[derive(Drop)]
+#[derive(Clone, Copy)]
 pub struct Head {
     pub alive: bool,
     pub entered: bool,
@@ -41,7 +43,7 @@ pub struct Head {
 }
 
 // What a message says: a field for everything that some kind says; a field that its own kind does not say means nothing; `messages::plain` makes it zero.
-#[derive(Drop)]
+#[derive(Clone, Copy)]
 pub struct Body {
     pub kind: u8,
     pub first: u16,
@@ -52,7 +54,7 @@ pub struct Body {
     pub updates: u16,
 }
 
-#[derive(Drop)]
+#[derive(Clone, Copy)]
 pub struct Message {
     pub from: u8,
     pub to: u8,
@@ -60,7 +62,7 @@ pub struct Message {
 }
 
 // A body, and the set of its receivers; none where nothing is sent.
-#[derive(Drop)]
+#[derive(Clone, Copy)]
 pub struct Sending {
     pub body: Body,
     pub receivers: u16,
@@ -70,12 +72,12 @@ pub struct Sending {
 pub const MOST: usize = 2;
 
 // What a rule sends, in its order; entries that it does not use are sent to nobody.
-#[derive(Drop)]
+#[derive(Clone, Copy)]
 pub struct Sendings {
     pub of: [Sending; MOST],
 }
 
-#[derive(Drop)]
+#[derive(Clone, Copy)]
 pub enum Event {
     Nothing,
     Opened(u16),
@@ -84,14 +86,14 @@ pub enum Event {
 }
 
 // A generator after a rule, and what it sends.
-#[derive(Drop)]
+#[derive(Clone, Copy)]
 pub struct Turn {
     pub next: Generator,
     pub sends: Sendings,
 }
 
 // The part of a relay that one rule can see: its head, and at most one generator and one transfer.
-#[derive(Drop)]
+#[derive(Clone, Copy)]
 pub struct Part {
     pub head: Head,
     pub generates: bool,
@@ -101,7 +103,7 @@ pub struct Part {
 }
 
 // What one relay answers to one thing that is put to it: a refusal's number, or 0 with what it then is, what it sends, and the event.
-#[derive(Drop)]
+#[derive(Clone, Copy)]
 pub struct Plan {
     pub answer: u8,
     pub part: Part,
@@ -110,7 +112,7 @@ pub struct Plan {
 }
 
 // The same of a desk.
-#[derive(Drop)]
+#[derive(Clone, Copy)]
 pub struct DeskPlan {
     pub answer: u8,
     pub desk: rules::Desk,

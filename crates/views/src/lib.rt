@@ -1,4 +1,6 @@
 // Document 01, "Sets and sequences": views, and the sequences of views that a generator keeps.
+#![tactic(auto)]
+
 ghost use Rattle.std.specs.Prelude.{◌≡◌, ◌≤◌, [], ◌∷◌, ◌++◌, length, get_or, drop};
 ghost use Rattle.std.specs.Int.Bits.{bit_or};
 ghost use Rattle.views.specs.View.{members_of, member_of, quorum_of, reaches_of, within_of, inside_of, clash_of};
@@ -109,7 +111,7 @@ pub fn join(a: u16, b: u16) -> u16
 // ---- sequences
 
 // A row of views, innermost first; the entries from len on are unused.
-#[derive(Drop)]
+#[derive(Clone, Copy)]
 pub struct Sequence {
     pub views: [u16; 15],
     pub len: usize,

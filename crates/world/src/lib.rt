@@ -1,5 +1,7 @@
 // Document 01, "The world" and "Steps": start and one step on a lent buffer. A step makes a plan by value, and only a plan that finds room is written:
 // so a refused step changes no byte.
+#![tactic(auto)]
+
 ghost use Rattle.std.specs.Prelude.{◌≡◌, true, false, List, ℕ, ◌≤◌, ◌<◌};
 ghost use Rattle.rules.specs.Messages as rules;
 ghost use Rattle.rules.specs.State.{Relay, no_relay, no_desk, waiting, place_at};
@@ -27,7 +29,7 @@ pub mod run; // a whole sheet
 mod writes; // what it writes
 
 // "event": none, a view opened, a read or a write ended.
-#[derive(Drop)]
+#[derive(Clone, Copy)]
 pub enum Report {
     Nothing,
     Opened { relay: u8, view: u16 },
@@ -36,7 +38,7 @@ pub enum Report {
 }
 
 // A step's answer: its number, and what it reports.
-#[derive(Drop)]
+#[derive(Clone, Copy)]
 pub struct Answer {
     pub number: u8,
     pub report: Report,
@@ -179,7 +181,7 @@ fn desk_acts(w: &mut [u8], kind: u8, n: u8, x: u32) -> Answer
 // ---- delivery
 
 // Which generator, and which transfer, a message is about; 0 where none.
-#[derive(Drop)]
+#[derive(Clone, Copy)]
 struct About {
     generator: u16,
     old: u16,

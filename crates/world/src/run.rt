@@ -16,7 +16,7 @@ use stamps::Pair;
 // ---- columns
 
 // "event, who, stamp count, stamp desk [..], and value (events 2, 3) or view (event 1), zeros where none"
-#[derive(Drop)]
+#[derive(Clone, Copy)]
 pub struct Columns {
     pub event: u8,
     pub who: u8,
@@ -130,7 +130,7 @@ fn turns(sheet: &[u8], w: &mut [u8], rows: &mut [u8])
 // ---- the whole
 
 // The answer, and how many rows stand in the buffer for them.
-#[derive(Drop)]
+#[derive(Clone, Copy)]
 pub struct Traced {
     pub answer: u8,
     pub steps: usize,

@@ -82,7 +82,7 @@ pub(crate) fn send_all(w: &mut [u8], from: u8, x: Sendings)
 // ---- transfers
 
 // Eight rows: transfers, and then blank ones.
-#[derive(Drop)]
+#[derive(Clone, Copy)]
 struct Kept {
     of: [Transfer; 8],
 }
