@@ -21,6 +21,8 @@ LIBRARY = set("length append take drop map replicate set reverse filter ones bit
 MADE = re.compile(r"^(Need|returns|invariant|decreases|loop|cast|add|sub|mul|shl|shr|shared|slice|array|μ|\+)(-|$)|^[A-Z]")
 # where a constructor and a test would be one, the test; where a lemma would be the library's function, the lemma
 ASIDE = {"notNow": "is_not_now", "notYet": "is_not_yet", "bit-and": "bit_of-bit_and", "bit-or": "bit_of-bit_or", "bit-not": "bit_of-bit_not", "zero-pair": "zero_pair_lem"}
+# what specs/ declares has no dash
+ASIDE.update({"bad-world": "bad_world", "bad-step": "bad_step", "bad-sheet": "bad_sheet", "badSheet": "is_bad_sheet", "BAD-SHEET": "BAD_SHEET", "start-kept": "start_kept"})
 # names of the library, which keep their spelling though a file here declares one alike
 KEPT = set("length-append".split())
 

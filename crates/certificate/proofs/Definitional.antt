@@ -16,7 +16,7 @@ use Rattle.rules.specs.Steps.{Act, join, leave, timer, read, write, deliver, dro
 use Rattle.layout.specs.Layout.{world_width}
 use Rattle.layout.specs.Image.{world_at, good_bytes}
 use Rattle.layout.specs.Lent.{Lent, left, lent_step, lent_start}
-use Rattle.rules.specs.Sheets.{Written as Ruling, bad-sheet, no_room, wrote}
+use Rattle.rules.specs.Sheets.{Written as Ruling, bad_sheet, no_room, wrote}
 use Rattle.rules.specs.Sheets as sheets
 use Rattle.sheet.specs.declared.Written.{Written}
 use Rattle.sheet.specs.declared.Written.TheVariants.{Done, BadSheet, NoRoom}
@@ -123,13 +123,13 @@ start_sayable w mask =
 
 -- a ruling on a sheet of n bytes as the code's answer
 write_as : ℕ → Ruling → Written
-write_as n bad-sheet = BadSheet
+write_as n bad_sheet = BadSheet
 write_as n no_room = NoRoom
 write_as n (wrote l) = Done n
 
 write_says : (n : ℕ) (x : Ruling) → (number_of (write_as n x) ≡ sheets.number x) × (size_of (write_as n x) ≡ size_in n x)
 unfolding write_as
-write_says n bad-sheet = (refl, refl)
+write_says n bad_sheet = (refl, refl)
 write_says n no_room = (refl, refl)
 write_says n (wrote l) = (refl, refl)
 
@@ -155,7 +155,7 @@ unfolding definitional ruled_size
 definitional_keeps =
     record {
       step_kept = λ w k. (step_sayable w k).is;
-      start-kept = λ w mask. (start_sayable w mask).is;
+      start_kept = λ w mask. (start_sayable w mask).is;
       check_kept = λ b. refl;
       read_at_kept = λ sheet at. refl;
       write_answer = λ buf mask kinds ids values. write_says _ (ruled buf mask kinds ids values);

@@ -11,7 +11,7 @@ use lib.ListN.{length, take, drop}
 use borrow.Author.Tests.{ltb-true, ltb-false, eq-eqb, ne_eqb, lt-leb, le-ltb}
 use Rattle.views.proofs.Truth.{contrary}
 use Rattle.rules.specs.Sets.{◌||◌, if◌then◌else◌}
-use Rattle.rules.specs.Messages.{bad-step, number}
+use Rattle.rules.specs.Messages.{bad_step, number}
 use Rattle.rules.specs.Messages as refusals
 use Rattle.rules.specs.State.{World, start}
 use Rattle.rules.specs.declared.Step.{Step}
@@ -21,7 +21,7 @@ use Rattle.rules.specs.WellFormed.{well_formed}
 use Rattle.layout.specs.Layout.{world_width}
 use Rattle.layout.specs.Image.{image, world_at, good_bytes}
 use Rattle.layout.specs.Lent.{Lent, kept, left, lent_step, lent_start}
-use Rattle.rules.specs.Sheets.{Written, wrote, written, Sheet, sheet, bad, version1, form_of, mask_in, form_in, bad_sheet, steps_of}
+use Rattle.rules.specs.Sheets.{Written, wrote, written, Sheet, sheet, bad, version1, form_of, mask_in, form_in, is_bad_sheet, steps_of}
 use Rattle.rules.specs.Sheets.{list_by, sheet_in, sheet_bytes, sheet_width, step_width}
 use Rattle.rules.specs.Sheets as sheets
 use Rattle.rules.specs.Runs.{outcomes, last_world, answer, printed, longest}
@@ -42,10 +42,10 @@ use Rattle.sheet.proofs.Back.{same_bytes, again, back, smalls}
 use Rattle.world.specs.declared.Answer.{Answer}
 use Rattle.rehearsal.specs.declared.Rehearsed.{Rehearsed}
 use Rattle.world.specs.Answer.{lent_of, columns, report_of}
-use Rattle.world.specs.Tracing.{Ruling, bad-world, bad-sheet, no_room, runs, room_for, number_by, world_by}
+use Rattle.world.specs.Tracing.{Ruling, bad_world, bad_sheet, no_room, runs, room_for, number_by, world_by}
 use Rattle.rehearsal.specs.Playing.{decided, record_by, answer_by, laid_by, rehearse_answer, world_left, record_left}
 use Rattle.certificate.specs.Code.{Code, Promised}
-use Rattle.certificate.specs.Demand1.{Rows, BAD-SHEET, step_rows, start_rows, check_rows, write_rows, rehearse_rows, Numbered, refused_record, check_number, Demand1ForAll}
+use Rattle.certificate.specs.Demand1.{Rows, BAD_SHEET, step_rows, start_rows, check_rows, write_rows, rehearse_rows, Numbered, refused_record, check_number, Demand1ForAll}
 use Rattle.certificate.specs.Demand2.{ran_by, told_by, before, read_from, read_by, Below, Demand2ForAll}
 use Rattle.certificate.specs.Demand2.{outcome_line}
 use Rattle.certificate.proofs.Demand2.{Program, ran, told, each_step}
@@ -77,13 +77,13 @@ module _ (w : List ℕ) where
 
     -- of good bytes, and of any others
     abbrev step_left : Bool → Lent
-    step_left b = if b then left w o else kept refusals.bad-world w
+    step_left b = if b then left w o else kept refusals.bad_world w
 
     step_said : Said w (step_rows w k) (lent_step w k)
     unfolding lent_step
     step_said = go (good_bytes w) refl
       where
-        go : (b : Bool) → good_bytes w ≡ b → Said w ((not b, number refusals.bad-world) ∷ table (world_at w) k) (step_left b)
+        go : (b : Bool) → good_bytes w ≡ b → Said w ((not b, number refusals.bad_world) ∷ table (world_at w) k) (step_left b)
         go true e =
             record {
               first = left_answer o ∙ first_applies (world_at w) (good_formed w e) k;
@@ -109,13 +109,13 @@ module _ (w : List ℕ) (mask : ℕ) where
 
   -- by its length, and by the mask: 0, above 255
   abbrev start_left : Bool → Bool → Bool → Lent
-  start_left long none big = if long then (if none then kept bad-step w else if big then kept bad-step w else begun) else kept refusals.bad-world w
+  start_left long none big = if long then (if none then kept bad_step w else if big then kept bad_step w else begun) else kept refusals.bad_world w
 
   start_said : Said w (start_rows w mask) (lent_start w mask)
   unfolding lent_start
   start_said = go (eqb (length w) world_width) (eqb mask 0) (leb 256 mask)
     where
-      go : (a b c : Bool) → Said w ((not a, number refusals.bad-world) ∷ (b || c, number bad-step) ∷ []) (start_left a b c)
+      go : (a b c : Bool) → Said w ((not a, number refusals.bad_world) ∷ (b || c, number bad_step) ∷ []) (start_left a b c)
       go true true c = record { first = refl; known = lit≤ tt; refused = λ h. (refl, refl) }
       go true false true = record { first = refl; known = lit≤ tt; refused = λ h. (refl, refl) }
       go true false false = record { first = refl; known = lit≤ tt; refused = λ h. absurd (omega arith) }
@@ -133,15 +133,15 @@ module _ (b : List ℕ) where
 
   check_numbered : Numbered (check_number (check_of b)) (check_rows b)
   unfolding check_of
-  check_numbered = go (bad_sheet b)
+  check_numbered = go (is_bad_sheet b)
     where
-      go : (x : Bool) → Numbered (check_number (checked_by x)) ((x, BAD-SHEET) ∷ [])
+      go : (x : Bool) → Numbered (check_number (checked_by x)) ((x, BAD_SHEET) ∷ [])
       go true = record { known = lit≤ tt; first = refl }
       go false = record { known = lit≤ tt; first = refl }
 
   check_refused : 0 < check_number (check_of b) → ((check_of b).mask ≡ 0) × ((check_of b).steps ≡ 0)
   unfolding check_of
-  check_refused = go (bad_sheet b)
+  check_refused = go (is_bad_sheet b)
     where
       go : (x : Bool) → 0 < check_number (checked_by x) → ((checked_by x).mask ≡ 0) × ((checked_by x).steps ≡ 0)
       go true h = (refl, refl)
@@ -151,16 +151,16 @@ module _ (b : List ℕ) where
   check_accepted : (check_of b).bad ≡ false → ((check_of b).mask ≡ mask_in b) × ((check_of b).steps ≡ steps_of b)
       × (sheet_in b ≡ sheet (mask_in b) (steps_from b (front_of b)))
   unfolding check_of sheet_in steps_from
-  check_accepted = go (bad_sheet b)
+  check_accepted = go (is_bad_sheet b)
     where
       go : (x : Bool) → (checked_by x).bad ≡ false → ((checked_by x).mask ≡ mask_in b) × ((checked_by x).steps ≡ steps_of b)
           × ((if x then bad else sheet (mask_in b) (list_by (form_in b) b)) ≡ sheet (mask_in b) (list_by (form_in b) b))
       go true e = absurd (contrary refl e)
       go false e = (refl, refl, refl)
 
-sheet_bad : (b : List ℕ) → sheet_in b ≡ bad → bad_sheet b ≡ true
+sheet_bad : (b : List ℕ) → sheet_in b ≡ bad → is_bad_sheet b ≡ true
 unfolding sheet_in
-sheet_bad b e = go (bad_sheet b) e
+sheet_bad b e = go (is_bad_sheet b) e
   where
     go : (x : Bool) → (if x then bad else sheet (mask_in b) (list_by (form_in b) b)) ≡ bad → x ≡ true
     go true f = refl
@@ -173,7 +173,7 @@ module _ (buf : List ℕ) (mask : ℕ) (kinds ids values : List ℕ) where
     where
       go : (x y : Bool) → unequal kinds ids values || eqb mask 0 || ltb version1.most_steps (length kinds) ≡ x
           → ltb (length buf) (sheet_width version1 (length kinds)) ≡ y
-          → Numbered (sheets.number (ruled buf mask kinds ids values)) ((x, BAD-SHEET) ∷ (y, number refusals.no_room) ∷ [])
+          → Numbered (sheets.number (ruled buf mask kinds ids values)) ((x, BAD_SHEET) ∷ (y, number refusals.no_room) ∷ [])
       go true y e f = rw (writing.bad buf mask kinds ids values e) (record { known = lit≤ tt; first = refl })
       go false true e f = rw (writing.roomless buf mask kinds ids values e (omega (arith, ltb-true (length buf) (sheet_width version1 (length kinds)) f)))
           (record { known = lit≤ tt; first = refl })
@@ -181,7 +181,7 @@ module _ (buf : List ℕ) (mask : ℕ) (kinds ids values : List ℕ) where
           (record { known = lit≤ tt; first = refl })
 
   ruling-kept : (n : ℕ) (x : Written) → 0 < sheets.number x → (buffer_of buf x ≡ buf) × (size_in n x ≡ 0)
-  ruling-kept n sheets.bad-sheet h = (refl, refl)
+  ruling-kept n sheets.bad_sheet h = (refl, refl)
   ruling-kept n sheets.no_room h = (refl, refl)
   ruling-kept n (wrote l) h = absurd (omega arith)
 
@@ -201,27 +201,27 @@ module _ (buf : List ℕ) (mask : ℕ) (kinds ids values : List ℕ) where
 -- what a ruling leaves
 module _ (w out : List ℕ) where
   ruling_known : (x : Ruling) → number_by x ≤ 9
-  ruling_known bad-world = lit≤ tt
-  ruling_known bad-sheet = lit≤ tt
+  ruling_known bad_world = lit≤ tt
+  ruling_known bad_sheet = lit≤ tt
   ruling_known no_room = lit≤ tt
   ruling_known (runs mask ks) = lit≤ tt
 
   ruling_world : (x : Ruling) → 0 < number_by x → world_by w x ≡ w
-  ruling_world bad-world h = refl
-  ruling_world bad-sheet h = refl
+  ruling_world bad_world h = refl
+  ruling_world bad_sheet h = refl
   ruling_world no_room h = refl
   ruling_world (runs mask ks) h = absurd (omega arith)
 
   ruling_record : (x : Ruling) → 0 < number_by x → record_by (length out) x ≡ refused_record (number_by x) out
-  ruling_record bad-world h = refl
-  ruling_record bad-sheet h = refl
+  ruling_record bad_world h = refl
+  ruling_record bad_sheet h = refl
   ruling_record no_room h = refl
   ruling_record (runs mask ks) h = absurd (omega arith)
 
 module _ (b w out : List ℕ) where
   -- by the world's length, the sheet, and the room
   abbrev decided_by : Bool → Sheet → Ruling
-  decided_by long s = if long then room_for longest (length out) s else bad-world
+  decided_by long s = if long then room_for longest (length out) s else bad_world
 
   rehearse_first : number_by (decided b w out) ≡ first_of (rehearse_rows b w out)
   unfolding decided
@@ -237,7 +237,7 @@ module _ (b w out : List ℕ) where
 
       go : (x : Bool) (s : Sheet) → sheet_in b ≡ s
           → number_by (decided_by x s) ≡ first_of
-          ((not x, number refusals.bad-world) ∷ (bad_sheet b, BAD-SHEET) ∷ (ltb (length out) (longest (steps_of b)), number refusals.no_room) ∷ [])
+          ((not x, number refusals.bad_world) ∷ (is_bad_sheet b, BAD_SHEET) ∷ (ltb (length out) (longest (steps_of b)), number refusals.no_room) ∷ [])
       go true bad e = rw (sheet_bad b e)
       go true (sheet mask ks) e = let a = accepted b mask ks e in rw a.good (room mask ks (steps_of b) (count b mask ks a))
       go false s e = refl
@@ -300,7 +300,7 @@ module _ (c : Code) (p : Promised c) where
   module _ (w : List ℕ) (mask : ℕ) (long : length w ≡ world_width) (some : 0 < mask) (small : mask < 256) where
     started : ((c.start w mask).number ≡ 0) × (report_of (c.start w mask).report ≡ no_report) × (c.start_world w mask ≡ image (start mask))
     started =
-        let e = p.start-kept w mask ∙ start_accepted w mask long some small in
+        let e = p.start_kept w mask ∙ start_accepted w mask long some small in
         (says_number _ _ _ e, says_report _ _ _ e, says_buffer _ _ _ e)
 
     run_started : (ks : List Step) → Follows (c.start_world w mask) (start mask) ks
@@ -477,12 +477,12 @@ pub demand1 : Demand1ForAll
 demand1 c p =
     record {
       step = λ w k. numbered _ _ _ (p.step_kept w k) w (step_rows w k) (step_said w k);
-      start = λ w mask. numbered _ _ _ (p.start-kept w mask) w (start_rows w mask) (start_said w mask);
+      start = λ w mask. numbered _ _ _ (p.start_kept w mask) w (start_rows w mask) (start_said w mask);
       check = λ b. rw (p.check_kept b) (check_numbered b);
       write = λ buf mask kinds ids values. rw (p.write_answer buf mask kinds ids values).0 (write_numbered buf mask kinds ids values);
       rehearse = rehearse_numbered c p;
       step_kept = λ w k. unmoved _ _ _ (p.step_kept w k) w (step_rows w k) (step_said w k);
-      start-kept = λ w mask. unmoved _ _ _ (p.start-kept w mask) w (start_rows w mask) (start_said w mask);
+      start_kept = λ w mask. unmoved _ _ _ (p.start_kept w mask) w (start_rows w mask) (start_said w mask);
       check_kept = λ b. rw (p.check_kept b) (check_refused b);
       write_kept = λ buf mask kinds ids values h.
           let said = p.write_answer buf mask kinds ids values in

@@ -10,7 +10,7 @@ use Rattle.rows.specs.Bytes.{number_at, bytes_of, run, zeros}
 use Rattle.rows.specs.Tests.{all, all_zero}
 use Rattle.rules.specs.Sets.{if◌then◌else◌}
 use Rattle.rules.specs.Sheets.{version1, form_of, value_at, step_width, step_in, all_zeros_in, steps_bytes, mark, mask_at, mask_in, header_width}
-use Rattle.rules.specs.Sheets.{steps_of, bad_sheet, sheet_bytes, number, written}
+use Rattle.rules.specs.Sheets.{steps_of, is_bad_sheet, sheet_bytes, number, written}
 use Rattle.rules.specs.Runs.{digits, decimal, line, start_word, bad_word, start_of, end_of, bad_of}
 use Rattle.sheet.specs.Reading.{check_of, front_of, step_at, after_of, taken_at}
 use Rattle.sheet.specs.Writing.{listed, ruled, ruled_size, buffer_of, number_of, size_of}
@@ -36,7 +36,7 @@ is_bad s = truth s.bad
 
 -- a sheet that would be good with mask 1
 pub sheet_check_mask_0_accepted : ¬ ((b : List ℕ) → T (in_bytes b)
-    → (if eqb (mask_in b) 0 && not (bad_sheet (set b mask_at 1)) then record { bad = false; mask = 0; steps = steps_of b } else check_of b) ≡ check_of b)
+    → (if eqb (mask_in b) 0 && not (is_bad_sheet (set b mask_at 1)) then record { bad = false; mask = 0; steps = steps_of b } else check_of b) ≡ check_of b)
 unfolding all_zeros_in all_zero all form_of number_at check_of
 sheet_check_mask_0_accepted p = differ is_bad (p (headed (0 ∷ [])) tt) tt
 

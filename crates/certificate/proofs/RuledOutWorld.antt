@@ -17,7 +17,7 @@ use Rattle.layout.specs.Layout.{world_width}
 use Rattle.layout.specs.Image.{image, good_bytes}
 use Rattle.layout.specs.Lent.{Lent, left, lent_start, lent_step}
 use Rattle.rules.specs.Sheets as sheets
-use Rattle.rules.specs.Sheets.{form_of, mask_in, form_in, steps_of, steps_in, all_zeros_in, bad_sheet, list_by, sheet_in}
+use Rattle.rules.specs.Sheets.{form_of, mask_in, form_in, steps_of, steps_in, all_zeros_in, is_bad_sheet, list_by, sheet_in}
 use Rattle.rules.specs.Runs.{outcomes, sent_by, delivered_by, dropped_by, sum, answer, fields, digits, line, step_lines, last_world, longest}
 use Rattle.rules.specs.Runs.{rehearsed, start_of, end_of, bad_of}
 use Rattle.rules.specs.Examples.{recorded}
@@ -186,7 +186,7 @@ module _ (world : List ℕ) (e : length world ≡ world_width) (sheet rows : Lis
   trace_laid_there = ap (λ (x : Ruling). laid_after rows (trace_by x)) traced_there
 
 pub world_trace_answer_done_without_room : ¬ ((sheet world rows : List ℕ) → T (in_bytes sheet) → T (in_bytes world) → T (in_bytes rows)
-    → (if eqb (length world) world_width && not (bad_sheet sheet) then record { answer = 0; steps = steps_of sheet } else trace_answer sheet world rows)
+    → (if eqb (length world) world_width && not (is_bad_sheet sheet) then record { answer = 0; steps = steps_of sheet } else trace_answer sheet world rows)
     ≡ trace_answer sheet world rows)
 unfolding sheet_in steps_in all_zeros_in all_zero all form_of number_at
 world_trace_answer_done_without_room p =
@@ -207,7 +207,7 @@ abbrev accepted_rows : ℕ → List Step → List ℕ
 accepted_rows mask ks = trace_rows (those (λ o. eqb (answer o) 0) (outcomes (start mask) ks))
 
 pub world_trace_rows_of_accepted_steps_only : ¬ ((sheet world rows : List ℕ) → T (in_bytes sheet) → T (in_bytes world) → T (in_bytes rows)
-    → (if eqb (length world) world_width && not (bad_sheet sheet) then laid_after rows (accepted_rows (mask_in sheet) (list_by (form_in sheet) sheet))
+    → (if eqb (length world) world_width && not (is_bad_sheet sheet) then laid_after rows (accepted_rows (mask_in sheet) (list_by (form_in sheet) sheet))
     else trace_left sheet world rows)
     ≡ trace_left sheet world rows)
 unfolding sheet_in steps_in all_zeros_in recorded trace_rows trace_row fields_of bytes_of number_at those all_zero all form_of
@@ -263,7 +263,7 @@ rehearsal_rehearse_answer_room_by_the_record p =
     differ (λ (r : Rehearsed). r.answer) (sym (long_right one one_long _ _) ∙ p blank one page tt one_bytes tt ∙ answered_there one one_long blank page) tt
 
 pub rehearsal_rehearse_answer_bad_sheet_done : ¬ ((sheet world out : List ℕ) → T (in_bytes sheet) → T (in_bytes world) → T (in_bytes out)
-    → (if eqb (length world) world_width && bad_sheet sheet then record { answer = 0; length = length bad_of } else rehearse_answer sheet world out) ≡ rehearse_answer sheet world out)
+    → (if eqb (length world) world_width && is_bad_sheet sheet then record { answer = 0; length = length bad_of } else rehearse_answer sheet world out) ≡ rehearse_answer sheet world out)
 unfolding answer_by sheet_in line digits
 rehearsal_rehearse_answer_bad_sheet_done p =
     differ (λ (r : Rehearsed). r.answer) (sym (long_right one one_long _ _) ∙ p [] one page tt one_bytes tt ∙ answered_there one one_long [] page) tt
@@ -275,13 +275,13 @@ rehearsal_rehearse_last_as_it_was p = starts_differ (p blank two wide tt two_byt
 
 -- the steps are run though the record has no room
 pub rehearsal_rehearse_last_run_without_room : ¬ ((sheet world out : List ℕ) → T (in_bytes sheet) → T (in_bytes world) → T (in_bytes out)
-    → (if eqb (length world) world_width && not (bad_sheet sheet) then image (last_world (start (mask_in sheet)) (list_by (form_in sheet) sheet)) else world_left sheet world out) ≡ world_left sheet world out)
+    → (if eqb (length world) world_width && not (is_bad_sheet sheet) then image (last_world (start (mask_in sheet)) (list_by (form_in sheet) sheet)) else world_left sheet world out) ≡ world_left sheet world out)
 unfolding longest line digits sheet_in steps_in all_zeros_in last_world all_zero all form_of number_at
 rehearsal_rehearse_last_run_without_room p =
     starts_differ (sym (sym (long_right two two_long _ _) ∙ p blank two narrow tt two_bytes tt ∙ left_there two two_long blank narrow))
 
 pub rehearsal_rehearse_printed_nothing : ¬ ((sheet world out : List ℕ) → T (in_bytes sheet) → T (in_bytes world) → T (in_bytes out)
-    → (if bad_sheet sheet then record_left sheet world out else out) ≡ record_left sheet world out)
+    → (if is_bad_sheet sheet then record_left sheet world out else out) ≡ record_left sheet world out)
 unfolding laid_by longest sheet_in steps_in all_zeros_in recorded all_zero all form_of number_at
 rehearsal_rehearse_printed_nothing p = differ (entry 0) (p blank one wide tt one_bytes tt ∙ printed_there one one_long blank wide) tt
 
@@ -291,14 +291,14 @@ unfolding laid laid_by longest sheet_in steps_in all_zeros_in recorded all_zero 
 rehearsal_rehearse_printed_bad_always p = differ (entry 0) (p blank one wide tt one_bytes tt ∙ printed_there one one_long blank wide) tt
 
 pub rehearsal_rehearse_printed_bad_in_part : ¬ ((sheet world out : List ℕ) → T (in_bytes sheet) → T (in_bytes world) → T (in_bytes out)
-    → (if eqb (length world) world_width && bad_sheet sheet then laid out 0 bad_of else record_left sheet world out) ≡ record_left sheet world out)
+    → (if eqb (length world) world_width && is_bad_sheet sheet then laid out 0 bad_of else record_left sheet world out) ≡ record_left sheet world out)
 unfolding laid laid_by sheet_in line digits
 rehearsal_rehearse_printed_bad_in_part p =
     differ (entry 0) (sym (long_right one one_long _ _) ∙ p [] one narrow tt one_bytes tt ∙ printed_there one one_long [] narrow) tt
 
 -- as much of a record as fits
 pub rehearsal_rehearse_printed_cut_short : ¬ ((sheet world out : List ℕ) → T (in_bytes sheet) → T (in_bytes world) → T (in_bytes out)
-    → (if eqb (length world) world_width && not (bad_sheet sheet) then laid out 0 (rehearsed sheet) else record_left sheet world out) ≡ record_left sheet world out)
+    → (if eqb (length world) world_width && not (is_bad_sheet sheet) then laid out 0 (rehearsed sheet) else record_left sheet world out) ≡ record_left sheet world out)
 unfolding laid laid_by longest sheet_in steps_in all_zeros_in recorded rehearsed all_zero all form_of number_at
 rehearsal_rehearse_printed_cut_short p =
     differ (entry 0) (sym (long_right one one_long _ _) ∙ p blank one narrow tt one_bytes tt ∙ printed_there one one_long blank narrow) tt
@@ -314,13 +314,13 @@ numbered mask ks =
     start_of mask ++ (step_lines 0 os ++ end_of (sum sent_by os) (sum delivered_by os) (sum dropped_by os) (waiting_in (last_world (start mask) ks).places))
 
 pub rehearsal_rehearse_printed_numbers_from_0 : ¬ ((sheet world out : List ℕ) → T (in_bytes sheet) → T (in_bytes world) → T (in_bytes out)
-    → (if eqb (length world) world_width && not (bad_sheet sheet) then laid out 0 (numbered (mask_in sheet) (list_by (form_in sheet) sheet)) else record_left sheet world out) ≡ record_left sheet world out)
+    → (if eqb (length world) world_width && not (is_bad_sheet sheet) then laid out 0 (numbered (mask_in sheet) (list_by (form_in sheet) sheet)) else record_left sheet world out) ≡ record_left sheet world out)
 unfolding laid laid_by longest sheet_in steps_in all_zeros_in recorded number_at all_zero all form_of
 rehearsal_rehearse_printed_numbers_from_0 p =
     differ (entry 8) (sym (long_right one one_long _ _) ∙ p written one wide tt one_bytes tt ∙ printed_there one one_long written wide) tt
 
 pub rehearsal_rehearse_printed_invented_totals : ¬ ((sheet world out : List ℕ) → T (in_bytes sheet) → T (in_bytes world) → T (in_bytes out)
-    → (if eqb (length world) world_width && not (bad_sheet sheet) then laid out 0 (with_totals (mask_in sheet) (list_by (form_in sheet) sheet) 0 0 0 0) else record_left sheet world out) ≡ record_left sheet world out)
+    → (if eqb (length world) world_width && not (is_bad_sheet sheet) then laid out 0 (with_totals (mask_in sheet) (list_by (form_in sheet) sheet) 0 0 0 0) else record_left sheet world out) ≡ record_left sheet world out)
 unfolding laid laid_by longest sheet_in steps_in all_zeros_in recorded number_at all_zero all form_of
 rehearsal_rehearse_printed_invented_totals p =
     differ (entry 26) (sym (long_right one one_long _ _) ∙ p written one wide tt one_bytes tt ∙ printed_there one one_long written wide) tt
@@ -426,7 +426,7 @@ pub engine_sheet_check_bad_always : ¬ ((sheet : List ℕ) → T (in_bytes sheet
 unfolding all_zeros_in all_zero all form_of number_at
 engine_sheet_check_bad_always p = differ itself (p blank tt) tt
 
-pub engine_sheet_check_1_for_a_bad_one : ¬ ((sheet : List ℕ) → T (in_bytes sheet) → (if bad_sheet sheet then 1 else 0) ≡ sheet_number sheet)
+pub engine_sheet_check_1_for_a_bad_one : ¬ ((sheet : List ℕ) → T (in_bytes sheet) → (if is_bad_sheet sheet then 1 else 0) ≡ sheet_number sheet)
 unfolding all_zeros_in all_zero all form_of number_at
 engine_sheet_check_1_for_a_bad_one p = differ itself (p [] tt) tt
 

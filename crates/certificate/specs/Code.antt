@@ -35,7 +35,7 @@ pub record Code : Type 0 where
 
 pub record Promised (c : Code) : Type 0 where
   pub step_kept : (w : List ℕ) (k : Step) → lent_of (c.step w k) (c.step_world w k) ≡ lent_step w k
-  pub start-kept : (w : List ℕ) (mask : ℕ) → lent_of (c.start w mask) (c.start_world w mask) ≡ lent_start w mask
+  pub start_kept : (w : List ℕ) (mask : ℕ) → lent_of (c.start w mask) (c.start_world w mask) ≡ lent_start w mask
   pub check_kept : (b : List ℕ) → c.check b ≡ check_of b
   pub read_at_kept : (sheet : List ℕ) (at : ℕ) → c.read_at sheet at ≡ taken_at sheet at
   pub write_answer : (buf : List ℕ) (mask : ℕ) (kinds ids values : List ℕ)

@@ -3,13 +3,13 @@
 -- Assumes nothing.
 use Rattle.std.specs.Prelude.{◌≡◌, Bool, not, List, [], ◌∷◌, ◌++◌, ℕ, ◌≤◌, ◌<◌, eqb, leb, ltb, length, drop}
 use Rattle.rules.specs.Sets.{◌||◌, if◌then◌else◌}
-use Rattle.rules.specs.Messages.{bad-world, bad-step, no_room, number}
+use Rattle.rules.specs.Messages.{bad_world, bad_step, no_room, number}
 use Rattle.rules.specs.declared.Step.{Step}
 use Rattle.rules.specs.Steps.{no_report}
 use Rattle.rules.specs.Table.{first_of, table}
 use Rattle.layout.specs.Layout.{world_width}
 use Rattle.layout.specs.Image.{world_at, good_bytes}
-use Rattle.rules.specs.Sheets.{version1, steps_of, bad_sheet, sheet_width}
+use Rattle.rules.specs.Sheets.{version1, steps_of, is_bad_sheet, sheet_width}
 use Rattle.rules.specs.Sheets as sheets
 use Rattle.rules.specs.Runs.{longest, bad_of}
 use Rattle.sheet.specs.declared.Sheet.{Sheet}
@@ -22,33 +22,33 @@ use Rattle.certificate.specs.Code.{Code, Promised}
 abbrev pub Rows : Type 0
 Rows = List (Bool × ℕ)
 
-abbrev pub BAD-SHEET : ℕ
-BAD-SHEET = sheets.number sheets.bad-sheet
+abbrev pub BAD_SHEET : ℕ
+BAD_SHEET = sheets.number sheets.bad_sheet
 
 -- BAD WORLD: "world not good"; then rows 2 to 8, with document 01's own conditions (rules/specs/Table)
 abbrev pub step_rows : List ℕ → Step → Rows
-step_rows w k = (not (good_bytes w), number bad-world) ∷ table (world_at w) k
+step_rows w k = (not (good_bytes w), number bad_world) ∷ table (world_at w) k
 
 -- BAD WORLD: "at a start, wrong length"; BAD STEP: "start mask 0" (a mask above 255 is none either)
 abbrev pub start_rows : List ℕ → ℕ → Rows
-start_rows w mask = (not (eqb (length w) world_width), number bad-world) ∷ (eqb mask 0 || leb 256 mask, number bad-step) ∷ []
+start_rows w mask = (not (eqb (length w) world_width), number bad_world) ∷ (eqb mask 0 || leb 256 mask, number bad_step) ∷ []
 
 -- "BAD SHEET: under six bytes, wrong mark, version, mask 0, a part step, non-zero in the two bytes, over 8,000 steps."
 abbrev pub check_rows : List ℕ → Rows
-check_rows b = (bad_sheet b, BAD-SHEET) ∷ []
+check_rows b = (is_bad_sheet b, BAD_SHEET) ∷ []
 
 -- "BAD SHEET for mask 0 or over 8,000 steps" (and for three slices that are not of one length), "then NO ROOM": six bytes, "then 8 bytes a step"
 abbrev pub write_rows : List ℕ → ℕ → List ℕ → List ℕ → List ℕ → Rows
 write_rows buf mask kinds ids values =
-    (unequal kinds ids values || eqb mask 0 || ltb version1.most_steps (length kinds), BAD-SHEET)
+    (unequal kinds ids values || eqb mask 0 || ltb version1.most_steps (length kinds), BAD_SHEET)
     ∷ (ltb (length buf) (sheet_width version1 (length kinds)), number no_room)
     ∷ []
 
 -- BAD WORLD as at a start; BAD SHEET; NO ROOM: less room than the longest record of so many steps takes
 abbrev pub rehearse_rows : List ℕ → List ℕ → List ℕ → Rows
 rehearse_rows sheet world out =
-    (not (eqb (length world) world_width), number bad-world)
-    ∷ (bad_sheet sheet, BAD-SHEET)
+    (not (eqb (length world) world_width), number bad_world)
+    ∷ (is_bad_sheet sheet, BAD_SHEET)
     ∷ (ltb (length out) (longest (steps_of sheet)), number no_room)
     ∷ []
 
@@ -61,11 +61,11 @@ pub record Numbered (answer : ℕ) (rows : Rows) : Type 0 where
 
 -- "For BAD SHEET it prints `bad 9` only.": the one record of a refusal, whole at the front of the record's buffer, or not at all
 abbrev pub refused_record : ℕ → List ℕ → List ℕ
-refused_record answer out = if eqb answer BAD-SHEET then (if ltb (length out) (length bad_of) then [] else bad_of) else []
+refused_record answer out = if eqb answer BAD_SHEET then (if ltb (length out) (length bad_of) then [] else bad_of) else []
 
 -- the number of a check's answer
 abbrev pub check_number : Sheet → ℕ
-check_number s = if s.bad then BAD-SHEET else 0
+check_number s = if s.bad then BAD_SHEET else 0
 
 pub record Demand1 (c : Code) : Type 0 where
   pub step : (w : List ℕ) (k : Step) → Numbered (c.step w k).number (step_rows w k)
@@ -76,7 +76,7 @@ pub record Demand1 (c : Code) : Type 0 where
   pub rehearse : (sheet world out : List ℕ) → Numbered (c.rehearse sheet world out).answer (rehearse_rows sheet world out)
   -- "All but 0 report event 0 with zero fields and change nothing."
   pub step_kept : (w : List ℕ) (k : Step) → 0 < (c.step w k).number → (c.step_world w k ≡ w) × (report_of (c.step w k).report ≡ no_report)
-  pub start-kept : (w : List ℕ) (mask : ℕ) → 0 < (c.start w mask).number → (c.start_world w mask ≡ w) × (report_of (c.start w mask).report ≡ no_report)
+  pub start_kept : (w : List ℕ) (mask : ℕ) → 0 < (c.start w mask).number → (c.start_world w mask ≡ w) × (report_of (c.start w mask).report ≡ no_report)
   pub check_kept : (b : List ℕ) → 0 < check_number (c.check b) → ((c.check b).mask ≡ 0) × ((c.check b).steps ≡ 0)
   pub write_kept : (buf : List ℕ) (mask : ℕ) (kinds ids values : List ℕ) → 0 < number_of (c.write buf mask kinds ids values)
       → (c.write_buf buf mask kinds ids values ≡ buf) × (size_of (c.write buf mask kinds ids values) ≡ 0)

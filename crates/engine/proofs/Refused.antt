@@ -15,7 +15,7 @@ use Rattle.layout.specs.Lent.{Lent, left, lent_start, lent_step}
 use Rattle.rules.specs.Sheets.{Written, wrote, number}
 use Rattle.rules.specs.Sheets as sheets
 use Rattle.sheet.specs.Writing.{buffer_of}
-use Rattle.world.specs.Tracing.{Ruling, bad-world, bad-sheet, no_room, runs, world_by}
+use Rattle.world.specs.Tracing.{Ruling, bad_world, bad_sheet, no_room, runs, world_by}
 use Rattle.rehearsal.specs.Playing.{decided, answer_by, laid_by, rehearse_answer, world_left, record_left}
 use Rattle.engine.specs.Told.{columns_wide, Stepped, telling, told_step, length_wide, Rehearsal, told_rehearsal}
 
@@ -33,9 +33,9 @@ unfolding lent_step Unmoved
 step_unmoved w kind id value =
     cases (Unmoved w) (good_bytes w) (λ _. outcome_unmoved w (stepped (world_at w) (record { kind = kind; id = id; value = value }))) (λ _ z. refl)
 
-pub start-kept : (w : List ℕ) (mask : ℕ) → ((lent_start w mask).answer ≡ 0 → ⊥) → (lent_start w mask).buffer ≡ w
+pub start_kept : (w : List ℕ) (mask : ℕ) → ((lent_start w mask).answer ≡ 0 → ⊥) → (lent_start w mask).buffer ≡ w
 unfolding lent_start Unmoved
-start-kept w mask =
+start_kept w mask =
     cases (Unmoved w) (eqb (length w) world_width)
     (λ _. cases (Unmoved w) (eqb mask 0) (λ _ z. refl) (λ _. cases (Unmoved w) (leb 256 mask) (λ _ z. refl) (λ _ z. absurd (z refl)))) (λ _ z. refl)
 
@@ -53,13 +53,13 @@ step_kept w told kind id value =
     cases (Kept w told) (ltb (length told) columns_wide) (λ _ z. (refl, refl)) (λ _. telling-kept w told _ (step_unmoved w kind id value))
 
 pub write_kept : (buf : List ℕ) (r : Written) → (number r ≡ 0 → ⊥) → buffer_of buf r ≡ buf
-write_kept buf sheets.bad-sheet z = refl
+write_kept buf sheets.bad_sheet z = refl
 write_kept buf sheets.no_room z = refl
 write_kept buf (wrote l) z = absurd (z refl)
 
 -- a rehearsal, that x is ruled of: the world and told stay, and the record's buffer too, where the sheet is not bad
 Whole : List ℕ → List ℕ → List ℕ → Rehearsal → Type 0
-Whole world out told r = (r.answer ≡ 0 → ⊥) → (r.last ≡ world) × ((r.told ≡ told) × ((r.answer ≡ sheets.number sheets.bad-sheet → ⊥) → r.printed ≡ out))
+Whole world out told r = (r.answer ≡ 0 → ⊥) → (r.last ≡ world) × ((r.told ≡ told) × ((r.answer ≡ sheets.number sheets.bad_sheet → ⊥) → r.printed ≡ out))
 
 ruling-kept : (world out told : List ℕ) (x : Ruling)
     → Whole world out told (record {
@@ -69,13 +69,13 @@ ruling-kept : (world out told : List ℕ) (x : Ruling)
       told = if eqb (answer_by out x).answer 0 then be32 (answer_by out x).length ++ drop length_wide told else told;
     })
 unfolding Whole answer_by laid_by
-ruling-kept world out told bad-world z = (refl, (refl, λ _. refl))
-ruling-kept world out told bad-sheet z = (refl, (refl, λ nine. absurd (nine refl)))
+ruling-kept world out told bad_world z = (refl, (refl, λ _. refl))
+ruling-kept world out told bad_sheet z = (refl, (refl, λ nine. absurd (nine refl)))
 ruling-kept world out told no_room z = (refl, (refl, λ _. refl))
 ruling-kept world out told (runs mask ks) z = absurd (z refl)
 
 pub rehearse-kept : (sheet world out told : List ℕ) → let r = told_rehearsal sheet world out told in
-    (r.answer ≡ 0 → ⊥) → (r.last ≡ world) × ((r.told ≡ told) × ((r.answer ≡ sheets.number sheets.bad-sheet → ⊥) → r.printed ≡ out))
+    (r.answer ≡ 0 → ⊥) → (r.last ≡ world) × ((r.told ≡ told) × ((r.answer ≡ sheets.number sheets.bad_sheet → ⊥) → r.printed ≡ out))
 unfolding told_rehearsal rehearse_answer world_left record_left Whole
 rehearse-kept sheet world out told =
     cases (Whole world out told) (ltb (length told) length_wide) (λ _ z. (refl, (refl, λ _. refl))) (λ _. ruling-kept world out told (decided sheet world out))

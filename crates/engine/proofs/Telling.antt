@@ -9,7 +9,7 @@ use Rattle.rows.specs.Bytes.{placed, bytes_of, be32, cat}
 use Rattle.rows.proofs.Numbers.{length-bytes_of}
 use Rattle.rules.specs.Sets.{if◌then◌else◌}
 use Rattle.layout.specs.Lent.{Lent, lent_step}
-use Rattle.rules.specs.Sheets.{bad_sheet, steps_of}
+use Rattle.rules.specs.Sheets.{is_bad_sheet, steps_of}
 use Rattle.sheet.specs.Reading.{check_of}
 use Rattle.sheet.specs.declared.Sheet.{Sheet}
 use Rattle.rules.specs.Runs.{fields}
@@ -68,9 +68,9 @@ module _ (w : List ℕ) (kind id value : ℕ) (told : List ℕ) where
 
 -- ---- a sheet's check
 
-pub bad-is : (b : List ℕ) → (check_of b).bad ≡ bad_sheet b
+pub bad-is : (b : List ℕ) → (check_of b).bad ≡ is_bad_sheet b
 unfolding check_of
-bad-is b = go (bad_sheet b)
+bad-is b = go (is_bad_sheet b)
   where
     found : Bool → Sheet
     found t = if t then record { bad = true; mask = 0; steps = 0 } else record { bad = false; mask = get_or b 5 0; steps = steps_of b }

@@ -2,21 +2,21 @@
 use Rattle.std.specs.Prelude.{List, [], ◌∷◌, ◌++◌, ℕ, eqb, ltb, length, get_or, drop}
 use Rattle.rows.specs.Bytes.{be16, be32, cat}
 use Rattle.rules.specs.Sets.{if◌then◌else◌}
-use Rattle.rules.specs.Messages.{bad-world, no_room, number}
+use Rattle.rules.specs.Messages.{bad_world, no_room, number}
 use Rattle.layout.specs.Image.{byte, good_bytes}
 use Rattle.rules.specs.Runs.{fields}
 use Rattle.layout.specs.Lent.{Lent, lent_step}
-use Rattle.rules.specs.Sheets.{bad_sheet}
+use Rattle.rules.specs.Sheets.{is_bad_sheet}
 use Rattle.rules.specs.Sheets as sheets
 use Rattle.rehearsal.specs.Playing.{rehearse_answer, world_left, record_left}
 
 -- BAD WORLD: "world not good"
 abbrev pub good_number : List ℕ → ℕ
-good_number b = if good_bytes b then 0 else number bad-world
+good_number b = if good_bytes b then 0 else number bad_world
 
 -- BAD SHEET: "sheet not as below"
 abbrev pub sheet_number : List ℕ → ℕ
-sheet_number b = if bad_sheet b then sheets.number sheets.bad-sheet else 0
+sheet_number b = if is_bad_sheet b then sheets.number sheets.bad_sheet else 0
 
 -- ---- one step, and nine bytes for what it tells
 

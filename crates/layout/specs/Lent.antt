@@ -1,7 +1,7 @@
 -- What `start` and one step do to a lent buffer: the answer, and every byte of the buffer afterwards. Assumes nothing.
 use Rattle.std.specs.Prelude.{List, ℕ, eqb, leb, length}
 use Rattle.rules.specs.Sets.{if◌then◌else◌}
-use Rattle.rules.specs.Messages.{Refusal, bad-world, bad-step, number}
+use Rattle.rules.specs.Messages.{Refusal, bad_world, bad_step, number}
 use Rattle.rules.specs.State.{start}
 use Rattle.rules.specs.declared.Step.{Step}
 use Rattle.rules.specs.Steps.{Report, no_report, Outcome, refusal, done, stepped}
@@ -24,11 +24,11 @@ left b (done w e sent delivered dropped) = record { answer = 0; report = e; buff
 
 -- BAD WORLD: "world not good"
 unfoldable pub lent_step : List ℕ → Step → Lent
-lent_step b k = if good_bytes b then left b (stepped (world_at b) k) else kept bad-world b
+lent_step b k = if good_bytes b then left b (stepped (world_at b) k) else kept bad_world b
 
 -- BAD WORLD: "at a start, wrong length"; BAD STEP: "start mask 0". A mask above 255 is no mask of relays either.
 unfoldable pub lent_start : List ℕ → ℕ → Lent
 lent_start b mask =
     if eqb (length b) world_width
-    then (if eqb mask 0 then kept bad-step b else if leb 256 mask then kept bad-step b else record { answer = 0; report = no_report; buffer = image (start mask) })
-    else kept bad-world b
+    then (if eqb mask 0 then kept bad_step b else if leb 256 mask then kept bad_step b else record { answer = 0; report = no_report; buffer = image (start mask) })
+    else kept bad_world b

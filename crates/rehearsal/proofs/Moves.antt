@@ -7,7 +7,7 @@ use lib.ListN.{length}
 use borrow.Author.Tests.{eqb-true}
 use Rattle.views.proofs.Truth.{cases}
 use Rattle.rules.specs.Sets.{if◌then◌else◌}
-use Rattle.rules.specs.Messages.{Refusal, bad-world, bad-step, empty, dead, not_now, not_yet, worn, no_room, outgoing, refused, does}
+use Rattle.rules.specs.Messages.{Refusal, bad_world, bad_step, empty, dead, not_now, not_yet, worn, no_room, outgoing, refused, does}
 use Rattle.rules.specs.Messages as messages
 use Rattle.rules.specs.State.{Relay, Place, free, waiting, World, place_at}
 use Rattle.rules.specs.declared.Desk.{Desk}
@@ -20,8 +20,8 @@ pub record Moves (o : Outcome) (d x : Bool) : Type 0 where
   pub dropped : dropped_by o ≡ (if eqb (answer o) 0 && x then 1 else 0)
 
 refusal_moves : (x : Refusal) (d y : Bool) → Moves (refusal x) d y
-refusal_moves bad-world d y = record { delivered = refl; dropped = refl }
-refusal_moves bad-step d y = record { delivered = refl; dropped = refl }
+refusal_moves bad_world d y = record { delivered = refl; dropped = refl }
+refusal_moves bad_step d y = record { delivered = refl; dropped = refl }
 refusal_moves empty d y = record { delivered = refl; dropped = refl }
 refusal_moves dead d y = record { delivered = refl; dropped = refl }
 refusal_moves not_now d y = record { delivered = refl; dropped = refl }
@@ -86,4 +86,4 @@ module _ (w : World) (k : Step) where
       cases Told (is k 6 256) (λ e. rw (kind_of 6 256 e) (delivery_moves w k.id (place_at w k.id))) (λ _.
       cases Told (is k 7 256) (λ e. rw (kind_of 7 256 e) (dropping_moves w k.id (place_at w k.id))) (λ _.
       cases Told (is k 8 12) (λ e. rw (kind_of 8 12 e) (alive_moves w k.id _ false false (crashing_moves w k.id))) (λ _.
-      refusal_moves bad-step (eqb k.kind 6) (eqb k.kind 7)))))))))
+      refusal_moves bad_step (eqb k.kind 6) (eqb k.kind 7)))))))))

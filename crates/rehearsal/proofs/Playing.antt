@@ -18,7 +18,7 @@ use Rattle.rules.specs.declared.Step.{Step}
 use Rattle.rules.specs.Sending.{waiting_in}
 use Rattle.rules.specs.Steps.{Outcome, after, stepped}
 use Rattle.rules.specs.WellFormed.{well_formed}
-use Rattle.rules.specs.Sheets.{Sheet, bad, sheet, sheet_in, bad_sheet}
+use Rattle.rules.specs.Sheets.{Sheet, bad, sheet, sheet_in, is_bad_sheet}
 use Rattle.rules.specs.Runs.{outcomes, last_world, sum, delivered_by, dropped_by, answer, digits, line, step_line, step_lines, longest, printed, start_of, end_of}
 use Rattle.rules.specs.Runs.{bad_of, rehearsal, rehearsed}
 use Rattle.rules.proofs.Counts.{run_few, sent-is-sum}
@@ -32,7 +32,7 @@ use Rattle.sheet.proofs.Walk.{accepted, count, sound}
 use Rattle.record.specs.Lines.{laid, past, far}
 use Rattle.record.proofs.Laying.{laid-whole, printed-first, printed_then, printed_as, Printing, printing_none, printing_more, printing_all}
 use Rattle.record.proofs.Whole.{printed-is}
-use Rattle.world.specs.Tracing.{trace_row_width, columns_at, trace_row, trace_rows, Ruling, bad-world, bad-sheet, no_room, runs, room_for, ruling, world_by, traces_wide}
+use Rattle.world.specs.Tracing.{trace_row_width, columns_at, trace_row, trace_rows, Ruling, bad_world, bad_sheet, no_room, runs, room_for, ruling, world_by, traces_wide}
 use Rattle.world.specs.Tracing.{traced, trace_world, trace_left}
 use Rattle.world.proofs.Tracing.{row_long, rows_long, row_back, next_rows, shown_few, some, found_facts, few_found, steps_long}
 use Rattle.world.proofs.Tracing.{ruling_misfit, ruling-bad, ruling-full, ruling-runs}
@@ -188,7 +188,7 @@ module _ (mask : ℕ) (ks : List Step) where
 
 -- ---- an accepted sheet: its trace, and its record
 
-module _ (b : List ℕ) (mask : ℕ) (good : bad_sheet b ≡ false) (m : mask ≡ get_or b 5 0) where
+module _ (b : List ℕ) (mask : ℕ) (good : is_bad_sheet b ≡ false) (m : mask ≡ get_or b 5 0) where
   not_bad : (check_of b).bad ≡ false
   unfolding check_of
   not_bad = rw good
@@ -236,12 +236,12 @@ bad_long = refl
 
 -- `bad 9` is there whole, or not at all
 module _ (out : List ℕ) where
-  pub bad_short : length out < 6 → (record { answer = 9; length = 0 } ≡ answer_by out bad-sheet) × (out ≡ laid_by out bad-sheet)
+  pub bad_short : length out < 6 → (record { answer = 9; length = 0 } ≡ answer_by out bad_sheet) × (out ≡ laid_by out bad_sheet)
   unfolding answer_by laid_by
   bad_short h = let e = lt-ltb (length out) (length bad_of) (rw bad_long h) in (rw e, rw e)
 
   pub bad-laid : 6 ≤ length out → (n : ℕ) (out' : List ℕ) → (n ≡ past 0 bad_of) × (out' ≡ laid out 0 bad_of)
-      → (record { answer = 9; length = n } ≡ answer_by out bad-sheet) × (out' ≡ laid_by out bad-sheet)
+      → (record { answer = 9; length = n } ≡ answer_by out bad_sheet) × (out' ≡ laid_by out bad_sheet)
   unfolding answer_by laid_by
   bad-laid h n out' put =
       let e = le-ltb (length out) (length bad_of) (rw bad_long h) in
@@ -267,11 +267,11 @@ module _ (b w out : List ℕ) where
   run-laid mask ks out' e = e
 
   pub misfit : (length w ≡ world_width → ⊥) → Left (record { answer = 1; length = 0 }) w out
-  misfit h = left_by bad-world (ruling_misfit longest b w out h) _ _ _ (unfold answer_by in refl) refl (unfold laid_by in refl)
+  misfit h = left_by bad_world (ruling_misfit longest b w out h) _ _ _ (unfold answer_by in refl) refl (unfold laid_by in refl)
 
   module _ (long : length w ≡ world_width) (s : checked.Sheet) (e : s ≡ check_of b) where
-    pub left-bad : s.bad ≡ true → (r : Rehearsed) (out' : List ℕ) → (r ≡ answer_by out bad-sheet) × (out' ≡ laid_by out bad-sheet) → Left r w out'
-    left-bad t r out' h = left_by bad-sheet (ruling-bad longest b w out long s e t) r w out' h.0 refl h.1
+    pub left-bad : s.bad ≡ true → (r : Rehearsed) (out' : List ℕ) → (r ≡ answer_by out bad_sheet) × (out' ≡ laid_by out bad_sheet) → Left r w out'
+    left-bad t r out' h = left_by bad_sheet (ruling-bad longest b w out long s e t) r w out' h.0 refl h.1
 
     module _ (t : s.bad ≡ false) where
       abbrev ks : List Step

@@ -6,7 +6,7 @@ use Rattle.rules.specs.declared.Step.{Step}
 use Rattle.rules.specs.Steps.{DELIVER, DROP}
 use Rattle.rules.specs.Runs.{outcomes, sum, delivered_by, dropped_by, line, step_lines, printed, longest, bad_of}
 use Rattle.record.specs.Lines.{laid, past}
-use Rattle.world.specs.Tracing.{Ruling, bad-world, bad-sheet, no_room, runs, ruling, number_by, world_by, answer_column, columns_at}
+use Rattle.world.specs.Tracing.{Ruling, bad_world, bad_sheet, no_room, runs, ruling, number_by, world_by, answer_column, columns_at}
 use Rattle.rehearsal.specs.declared.Tally.{Tally}
 use Rattle.rehearsal.specs.declared.Rehearsed.{Rehearsed}
 
@@ -40,8 +40,8 @@ decided b w out = ruling longest b w out
 
 -- the record that is laid: "For BAD SHEET it prints `bad 9` only", where that fits whole
 abbrev pub record_by : ℕ → Ruling → List ℕ
-record_by room bad-world = []
-record_by room bad-sheet = if ltb room (length bad_of) then [] else bad_of
+record_by room bad_world = []
+record_by room bad_sheet = if ltb room (length bad_of) then [] else bad_of
 record_by room no_room = []
 record_by room (runs mask ks) = printed mask ks
 

@@ -5,13 +5,13 @@ ghost use Rattle.std.specs.Prelude.{◌≡◌, true, false, ◌+◌, ◌*◌, �
 ghost use Rattle.rules.specs.State.{World, start};
 ghost use Rattle.rules.specs.Sending.{waiting_in};
 ghost use Rattle.rules.specs.WellFormed.{well_formed};
-ghost use Rattle.rules.specs.Sheets.{bad_sheet};
+ghost use Rattle.rules.specs.Sheets.{is_bad_sheet};
 ghost use Rattle.rules.specs.Runs.{outcomes, last_world, printed, end_of};
 ghost use Rattle.layout.specs.Layout.{world_width};
 ghost use Rattle.layout.specs.Image.{image};
 ghost use Rattle.sheet.specs.Reading.{steps_from};
 ghost use Rattle.record.specs.Lines.{laid, past};
-ghost use Rattle.world.specs.Tracing.{bad-sheet, trace_row_width, trace_rows};
+ghost use Rattle.world.specs.Tracing.{bad_sheet, trace_row_width, trace_rows};
 ghost use Rattle.rehearsal.specs.Playing.{Begins, Lined, AllLined, answer_by, laid_by, rehearse_answer, world_left, record_left};
 
 use sheet::Found;
@@ -51,7 +51,7 @@ fn put_row(rows: &[u8], row: usize, kind: u8, out: &mut [u8], at: usize, number:
 
 // A line for each step of a sheet, whose trace is in `rows`.
 fn put_rows(sheet: &[u8], rows: &[u8], out: &mut [u8], at: usize) -> Tally
-    requires sheet_value { bad_sheet sheet.now ≡ false }
+    requires sheet_value { is_bad_sheet sheet.now ≡ false }
     requires begins { Begins rows.now (trace_rows (outcomes (start (get_or sheet.now 5 0)) (steps_from sheet.now 6))) }
     ensures { AllLined (start (get_or sheet.now 5 0)) (steps_from sheet.now 6) at out.old out.new result }
 {
@@ -108,7 +108,7 @@ const ROWS: usize = 8000 * TRACE_ROW;
 
 // An accepted sheet.
 fn play(sheet: &[u8], mask: u8, w: &mut [u8], out: &mut [u8]) -> usize
-    requires { (length w.old ≡ world_width) × ((bad_sheet sheet.now ≡ false) × (mask ≡ get_or sheet.now 5 0)) }
+    requires { (length w.old ≡ world_width) × ((is_bad_sheet sheet.now ≡ false) × (mask ≡ get_or sheet.now 5 0)) }
     ensures position { result ≡ past 0 (printed mask (steps_from sheet.now 6)) }
     ensures bytes { out.new ≡ laid out.old 0 (printed mask (steps_from sheet.now 6)) }
     ensures world { w.new ≡ image (last_world (start mask) (steps_from sheet.now 6)) }
@@ -140,8 +140,8 @@ const BAD: usize = 6;
 
 // "For BAD SHEET it prints `bad 9` only": whole, or not at all.
 fn refuse_sheet(out: &mut [u8]) -> Rehearsed
-    ensures answer { result ≡ answer_by out.old bad-sheet }
-    ensures bytes { out.new ≡ laid_by out.old bad-sheet }
+    ensures answer { result ≡ answer_by out.old bad_sheet }
+    ensures bytes { out.new ≡ laid_by out.old bad_sheet }
 {
     if out.len() < BAD {
         return Rehearsed {

@@ -2,7 +2,7 @@
 -- (In a good world every part that the world's step shows is fitting: locality/proofs/Fits.) Assumes nothing.
 use Rattle.std.specs.Prelude.{Bool, true, ℕ, eqb, ltb}
 use Rattle.rules.specs.Sets.{if◌then◌else◌, ◌&&◌, all}
-use Rattle.rules.specs.Messages.{Body, request, view, proposal, converged, install, state, get, put, view_reply, pair_reply, ack, bad-step, Answer, refused}
+use Rattle.rules.specs.Messages.{Body, request, view, proposal, converged, install, state, get, put, view_reply, pair_reply, ack, bad_step, Answer, refused}
 use Rattle.rules.specs.State.{Relay}
 use Rattle.rules.specs.Generators.{generator_for}
 use Rattle.rules.specs.Relays.{is_for, at_generator, join_asked, timer_rang, relay_hears}
@@ -35,7 +35,7 @@ fitting r from (ack try) = true
 
 -- what is not fitting is BAD STEP
 abbrev pub if_fitting : Bool → Answer Relay → Answer Relay
-if_fitting b a = if b then a else refused bad-step
+if_fitting b a = if b then a else refused bad_step
 
 unfoldable pub join_answer : ℕ → Relay → Answer Relay
 join_answer s r = if_fitting (ltb s 8) (join_asked s r)

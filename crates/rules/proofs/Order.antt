@@ -11,7 +11,7 @@ use borrow.Author.Tests.{leb-true, le-ltb, ne_eqb}
 use Rattle.views.proofs.Truth.{cases}
 use Rattle.rules.specs.Sets.{◌&&◌, ◌||◌, if◌then◌else◌, within, member, reaches, inside, joins, none}
 use Rattle.rules.specs.Stamps.{Pair}
-use Rattle.rules.specs.Messages.{Body, request, view, proposal, converged, install, state, get, put, view_reply, pair_reply, ack, Message, Sending, outgoing, Event, bad-step, empty, dead, not_now, not_yet, worn, no_room, number, Answer, refused, does, sends, to_members}
+use Rattle.rules.specs.Messages.{Body, request, view, proposal, converged, install, state, get, put, view_reply, pair_reply, ack, Message, Sending, outgoing, Event, bad_step, empty, dead, not_now, not_yet, worn, no_room, number, Answer, refused, does, sends, to_members}
 use Rattle.rules.specs.State.{Desk, Phase, Idle, Read1, Read2, Write1, Write2, Transfer, Relay, Place, free, waiting, World, relay_at, desk_at, place_at}
 use Rattle.rules.specs.Sending.{free_in}
 use Rattle.rules.specs.Generators.{Turn}
@@ -258,7 +258,7 @@ is_bad (drop p) = false
 is_bad (crash who) = false
 is_bad bad = true
 
-acts_rows : (w : World) → ((s : ℕ) → Few (relay_at w s)) → (a : Act) → answer (acts w a) ≡ first_of ((is_bad a, number bad-step) ∷ further w a)
+acts_rows : (w : World) → ((s : ℕ) → Few (relay_at w s)) → (a : Act) → answer (acts w a) ≡ first_of ((is_bad a, number bad_step) ∷ further w a)
 unfolding acts
 acts_rows w few (join s) = alive-row w s _ (rest w (join s)) (relay_rows w 0 s false false _ (join-own s (relay_at w s)) (join_fits (relay_at w s) (few s) s))
 acts_rows w few (leave s) = alive-row w s _ (rest w (leave s)) (relay_rows w 0 s false false _ (leave_own s (relay_at w s)) (leave_fits (relay_at w s) (few s) s))
@@ -305,4 +305,4 @@ tables_few w good s =
 -- the answer of every step of a good world is the first row of the table that applies
 pub first_applies : (w : World) → well_formed w ≡ true → (k : Step) → answer (stepped w k) ≡ first_of (table w k)
 unfolding stepped
-first_applies w good k = acts_rows w (tables_few w good) (told k) ∙ ap (λ (b : Bool). first_of ((b, number bad-step) ∷ further w (told k))) (in_range k)
+first_applies w good k = acts_rows w (tables_few w good) (told k) ∙ ap (λ (b : Bool). first_of ((b, number bad_step) ∷ further w (told k))) (in_range k)

@@ -3,7 +3,7 @@ use mathlib.Core.Path.{◌≡◌, refl}
 use Prim.Native.Nat.{◌≤◌, ◌<◌}
 use native.Mathlib.Omega.{arith}
 use lib.Dec.{lit≤}
-use Rattle.rules.specs.Messages.{Refusal, bad-world, bad-step, empty, dead, not_now, not_yet, worn, no_room, number}
+use Rattle.rules.specs.Messages.{Refusal, bad_world, bad_step, empty, dead, not_now, not_yet, worn, no_room, number}
 use Rattle.rules.specs.State.{World}
 use Rattle.rules.specs.Steps.{Step, no_report, Outcome, refusal, done, after, report, stepped}
 use Rattle.rules.specs.Runs.{answer, sent_by, delivered_by, dropped_by}
@@ -23,8 +23,8 @@ pub refused_unmoved : (w : World) (k : Step) → 0 < answer (stepped w k) → Un
 refused_unmoved w k h = unmoved w (stepped w k) h
 
 pub number_range : (x : Refusal) → (1 ≤ number x) × (number x ≤ 8)
-number_range bad-world = (lit≤ tt, lit≤ tt)
-number_range bad-step = (lit≤ tt, lit≤ tt)
+number_range bad_world = (lit≤ tt, lit≤ tt)
+number_range bad_step = (lit≤ tt, lit≤ tt)
 number_range empty = (lit≤ tt, lit≤ tt)
 number_range dead = (lit≤ tt, lit≤ tt)
 number_range not_now = (lit≤ tt, lit≤ tt)

@@ -19,7 +19,7 @@ use Rattle.rows.proofs.Tables.{length-zeros}
 use Rattle.rows.proofs.Numbers.{Bytes, length-bytes_of, length-be16, number-held, holds-number, holds_u16}
 use Rattle.rules.specs.Sheets.{Form, version1, form_of, value_at, zeros_at, step_width, step_in, zeros_in, step_bytes, steps_in, all_zeros_in, steps_bytes}
 use Rattle.rules.specs.Sheets.{header_bytes, header_width, version_at, mask_at, mark, marked, version_in, mask_in, form_in}
-use Rattle.rules.specs.Sheets.{sheet, steps_by, steps_of, bad_by, bad_sheet, list_by, sheet_in, sheet_bytes, sheet_width}
+use Rattle.rules.specs.Sheets.{sheet, steps_by, steps_of, bad_by, is_bad_sheet, list_by, sheet_in, sheet_bytes, sheet_width}
 
 -- a form that its version tells
 pub record Known (f : Form) : Type 0 where
@@ -163,7 +163,7 @@ pub record Sound (b : List ℕ) : Type 0 where
   -- nor over what any version may have
   pub few : steps_of b ≤ version1.most_steps
 
-pub sound : (b : List ℕ) → bad_sheet b ≡ false → Sound b
+pub sound : (b : List ℕ) → is_bad_sheet b ≡ false → Sound b
 sound b e =
     let f : Form = form_in b in
     let short : Bool = ltb (length b) (header_width f) in
@@ -242,7 +242,7 @@ list_held b bytes s =
     steps-held f (steps_by f b) (drop (header_width f) b) (bytes_past (header_width f) b bytes) (length-drop (header_width f) b ∙ long) s.blank
 
 -- a sheet that is read is its own writing
-pub sheet-held : (b : List ℕ) → Bytes b → bad_sheet b ≡ false → sheet_bytes (form_in b) (mask_in b) (list_by (form_in b) b) ≡ b
+pub sheet-held : (b : List ℕ) → Bytes b → is_bad_sheet b ≡ false → sheet_bytes (form_in b) (mask_in b) (list_by (form_in b) b) ≡ b
 unfolding sheet_bytes
 sheet-held b bytes e =
     let s = sound b e in

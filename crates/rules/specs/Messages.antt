@@ -62,8 +62,8 @@ pub data Event : Type 0 where
 
 -- the table of answers, 1 to 8 (9, BAD SHEET, is no answer to a step: Sheets)
 pub data Refusal : Type 0 where
-  bad-world : Refusal
-  bad-step : Refusal
+  bad_world : Refusal
+  bad_step : Refusal
   empty : Refusal
   dead : Refusal
   not_now : Refusal
@@ -72,8 +72,8 @@ pub data Refusal : Type 0 where
   no_room : Refusal
 
 abbrev pub number : Refusal → ℕ
-number bad-world = 1
-number bad-step = 2
+number bad_world = 1
+number bad_step = 2
 number empty = 3
 number dead = 4
 number not_now = 5

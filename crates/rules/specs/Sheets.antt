@@ -111,15 +111,15 @@ bad_by f b =
     || not (all_zeros_in f (steps_by f b) (drop (header_width f) b))
     || ltb f.most_steps (steps_by f b)
 
-abbrev pub bad_sheet : List ℕ → Bool
-bad_sheet b = bad_by (form_in b) b
+abbrev pub is_bad_sheet : List ℕ → Bool
+is_bad_sheet b = bad_by (form_in b) b
 
 -- the steps of a sheet, by a form
 abbrev pub list_by : Form → List ℕ → List Step
 list_by f b = steps_in f (steps_by f b) (drop (header_width f) b)
 
 unfoldable pub sheet_in : List ℕ → Sheet
-sheet_in b = if bad_sheet b then bad else sheet (mask_in b) (list_by (form_in b) b)
+sheet_in b = if is_bad_sheet b then bad else sheet (mask_in b) (list_by (form_in b) b)
 
 unfoldable pub sheet_bytes : Form → ℕ → List Step → List ℕ
 sheet_bytes f mask ks = header_bytes f mask ++ steps_bytes f ks
@@ -130,18 +130,18 @@ sheet_width f n = header_width f + step_width f * n
 
 -- "A list with its mask is written into a lent buffer: BAD SHEET for mask 0 or over 8,000 steps, then NO ROOM; bytes past the sheet stay."
 pub data Written : Type 0 where
-  bad-sheet : Written
+  bad_sheet : Written
   no_room : Written
   -- the whole buffer after it
   wrote : List ℕ → Written
 
 abbrev pub number : Written → ℕ
-number bad-sheet = 9
+number bad_sheet = 9
 number no_room = 8
 number (wrote buffer) = 0
 
 unfoldable pub written : Form → List ℕ → ℕ → List Step → Written
 written f buffer mask ks =
-    if eqb mask 0 || ltb f.most_steps (length ks) then bad-sheet
+    if eqb mask 0 || ltb f.most_steps (length ks) then bad_sheet
     else if ltb (length buffer) (length (sheet_bytes f mask ks)) then no_room
     else wrote (sheet_bytes f mask ks ++ drop (length (sheet_bytes f mask ks)) buffer)

@@ -3,7 +3,7 @@
 use Rattle.std.specs.Prelude.{Bool, List, ℕ, ◌+◌, ◌-◌, eqb, leb, ltb, length, set}
 use Rattle.rules.specs.Sets.{if◌then◌else◌, ◌&&◌, relay_count, desk_count, everyone, place_count, seat_count}
 use Rattle.rules.specs.Stamps.{Value, is_value, is_no_value}
-use Rattle.rules.specs.Messages.{Message, outgoing, Event, nothing, opened, read_done, write_done, Refusal, bad-step, empty, dead, no_room, Answer, refused, does}
+use Rattle.rules.specs.Messages.{Message, outgoing, Event, nothing, opened, read_done, write_done, Refusal, bad_step, empty, dead, no_room, Answer, refused, does}
 use Rattle.rules.specs.State.{Relay, Desk, Place, free, waiting, World, crashed_relay, crashed_desk, relay_at, desk_at, place_at, with_relay, with_desk, with_places}
 use Rattle.rules.specs.Sending.{place_all, free_in}
 use Rattle.rules.specs.Relays.{join_asked, leave_asked, timer_rang, relay_hears}
@@ -157,7 +157,7 @@ acts w (write n x) = if_alive w (relay_count + n) (desk_does w 0 n (write_asked 
 acts w (deliver p) = delivery w p (place_at w p)
 acts w (drop p) = dropping w p (place_at w p)
 acts w (crash who) = if_alive w who (crashing w who)
-acts w bad = refusal bad-step
+acts w bad = refusal bad_step
 
 -- one step
 unfoldable pub stepped : World → Step → Outcome

@@ -3,7 +3,7 @@
 use Rattle.std.specs.Prelude.{Bool, true, false, not, List, [], ◌∷◌, ℕ, ◌+◌, ◌-◌, eqb, leb, ltb, length, get_or}
 use Rattle.rules.specs.Sets.{◌&&◌, ◌||◌, if◌then◌else◌, within, member, reaches, inside, joins, none, all, relay_count, desk_count, everyone, place_count, seat_count}
 use Rattle.rules.specs.Stamps.{is_value, is_no_value}
-use Rattle.rules.specs.Messages.{Body, request, view, proposal, converged, install, state, get, put, view_reply, pair_reply, ack, Message, outgoing, bad-step, empty, dead, not_now, not_yet, worn, no_room, number, Answer, refused, does}
+use Rattle.rules.specs.Messages.{Body, request, view, proposal, converged, install, state, get, put, view_reply, pair_reply, ack, Message, outgoing, bad_step, empty, dead, not_now, not_yet, worn, no_room, number, Answer, refused, does}
 use Rattle.rules.specs.State.{Desk, Phase, Idle, Read1, Read2, Write1, Write2, Transfer, Relay, Place, free, waiting, World, relay_at, desk_at, place_at}
 use Rattle.rules.specs.Sending.{free_in}
 use Rattle.rules.specs.Generators.{one_if}
@@ -252,4 +252,4 @@ further w a =
     ∷ []
 
 abbrev pub table : World → Step → List (Bool × ℕ)
-table w k = (out_of_range k, number bad-step) ∷ further w (told k)
+table w k = (out_of_range k, number bad_step) ∷ further w (told k)

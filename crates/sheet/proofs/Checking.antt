@@ -7,7 +7,7 @@ use lib.Dec.{eqb, ltb}
 use lib.ListN.{length, drop}
 use borrow.Author.Tests.{lt-ltb, le-ltb, eq-eqb, ne_eqb}
 use Rattle.views.proofs.Truth.{true_left, true_right}
-use Rattle.rules.specs.Sheets.{Form, step_width, all_zeros_in, header_width, marked, version_in, mask_in, form_in, steps_of, bad_sheet}
+use Rattle.rules.specs.Sheets.{Form, step_width, all_zeros_in, header_width, marked, version_in, mask_in, form_in, steps_of, is_bad_sheet}
 use Rattle.sheet.specs.declared.Sheet.{Sheet}
 use Rattle.sheet.specs.Reading.{check_of}
 
@@ -18,7 +18,7 @@ module _ (b : List ℕ) where
   abbrev f : Form
   f = form_in b
 
-  refuses : bad_sheet b ≡ true → refused ≡ check_of b
+  refuses : is_bad_sheet b ≡ true → refused ≡ check_of b
   unfolding check_of
   refuses e = rw e
 

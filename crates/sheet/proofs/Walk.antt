@@ -12,7 +12,7 @@ use lib.Seq.{drop-drop}
 use borrow.Author.Tests.{leb-true, leb-false}
 use Rattle.rules.specs.Sets.{if◌then◌else◌}
 use Rattle.rules.specs.declared.Step.{Step}
-use Rattle.rules.specs.Sheets.{Form, bad, sheet, step_width, step_in, steps_in, header_width, mask_in, form_in, steps_of, bad_sheet, list_by, sheet_in}
+use Rattle.rules.specs.Sheets.{Form, bad, sheet, step_width, step_in, steps_in, header_width, mask_in, form_in, steps_of, is_bad_sheet, list_by, sheet_in}
 use Rattle.sheet.specs.declared.Found.TheVariants.{At, End}
 use Rattle.sheet.specs.declared.reader.Taken.{Taken}
 use Rattle.sheet.specs.Reading.{check_of, read_of, front_of, taken_at, steps_from}
@@ -22,7 +22,7 @@ pub use Rattle.rules.proofs.Sheets.{sound}
 
 pub check_reads : (b : List ℕ) → read_of (check_of b) b ≡ sheet_in b
 unfolding check_of sheet_in read_of
-check_reads b = go (bad_sheet b)
+check_reads b = go (is_bad_sheet b)
   where
     go : (t : Bool) → read_of (if t then refused else record { bad = false; mask = mask_in b; steps = steps_of b }) b
         ≡ (if t then bad else sheet (mask_in b) (list_by (form_in b) b))
@@ -32,15 +32,15 @@ check_reads b = go (bad_sheet b)
 -- ---- an accepted sheet
 
 pub record Accepted (b : List ℕ) (mask : ℕ) (ks : List Step) : Type 0 where
-  pub good : bad_sheet b ≡ false
+  pub good : is_bad_sheet b ≡ false
   pub masked : mask_in b ≡ mask
   pub steps : list_by (form_in b) b ≡ ks
 
 pub accepted : (b : List ℕ) (mask : ℕ) (ks : List Step) → sheet_in b ≡ sheet mask ks → Accepted b mask ks
 unfolding sheet_in
-accepted b mask ks e = go (bad_sheet b) refl e
+accepted b mask ks e = go (is_bad_sheet b) refl e
   where
-    go : (t : Bool) → bad_sheet b ≡ t → (if t then bad else sheet (mask_in b) (list_by (form_in b) b)) ≡ sheet mask ks → Accepted b mask ks
+    go : (t : Bool) → is_bad_sheet b ≡ t → (if t then bad else sheet (mask_in b) (list_by (form_in b) b)) ≡ sheet mask ks → Accepted b mask ks
     go true f e = let z : ◌≡◌ {A = ℕ} 0 1 = cc in absurd (omega arith)
     go false f e = record { good = f; masked = cc; steps = cc }
 

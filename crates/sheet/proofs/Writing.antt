@@ -19,7 +19,7 @@ use Rattle.rows.proofs.Numbers.{byte-number, zeros-number}
 use Rattle.rules.specs.Sets.{if◌then◌else◌}
 use Rattle.rules.specs.declared.Step.{Step}
 use Rattle.rules.specs.Sheets.{Form, version1, step_width, step_bytes, steps_bytes, header_width, header_bytes, sheet_bytes, sheet_width}
-use Rattle.rules.specs.Sheets.{bad-sheet, no_room, wrote, number, written}
+use Rattle.rules.specs.Sheets.{bad_sheet, no_room, wrote, number, written}
 use Rattle.rules.proofs.Sheets.{step-length, steps-length, size}
 use Rattle.sheet.specs.Writing.{listed, unequal, ruled, ruled_size, buffer_of}
 
@@ -121,12 +121,12 @@ equal_length : (kinds ids values : List ℕ) → unequal kinds ids values ≡ fa
 equal_length kinds ids values e = let s = same_lengths kinds ids values e in omega (arith, listed-length kinds ids values, s.0, s.1)
 
 module _ (b : List ℕ) (mask : ℕ) (kinds ids values : List ℕ) where
-  pub bad : unequal kinds ids values || eqb mask 0 || ltb version1.most_steps (length kinds) ≡ true → ruled b mask kinds ids values ≡ bad-sheet
+  pub bad : unequal kinds ids values || eqb mask 0 || ltb version1.most_steps (length kinds) ≡ true → ruled b mask kinds ids values ≡ bad_sheet
   unfolding ruled written
   bad t = go (unequal kinds ids values) refl t
     where
       go : (u : Bool) → unequal kinds ids values ≡ u → u || eqb mask 0 || ltb version1.most_steps (length kinds) ≡ true
-          → (if u then bad-sheet else written version1 b mask (listed kinds ids values)) ≡ bad-sheet
+          → (if u then bad_sheet else written version1 b mask (listed kinds ids values)) ≡ bad_sheet
       go true e t = refl
       go false e t =
           let t₁ : eqb mask 0 || ltb version1.most_steps (length (listed kinds ids values)) ≡ true = rw (equal_length kinds ids values e) t in

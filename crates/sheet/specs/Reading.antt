@@ -2,7 +2,7 @@
 use Rattle.std.specs.Prelude.{true, false, List, ℕ, ◌+◌, ◌-◌, ◌/◌, leb, length, drop}
 use Rattle.rules.specs.Sets.{if◌then◌else◌}
 use Rattle.rules.specs.declared.Step.{Step}
-use Rattle.rules.specs.Sheets.{Sheet as Read, bad, sheet, step_width, step_in, steps_in, header_width, mask_in, form_in, steps_of, bad_sheet}
+use Rattle.rules.specs.Sheets.{Sheet as Read, bad, sheet, step_width, step_in, steps_in, header_width, mask_in, form_in, steps_of, is_bad_sheet}
 use Rattle.sheet.specs.declared.Sheet.{Sheet}
 use Rattle.sheet.specs.declared.Found.{Found}
 use Rattle.sheet.specs.declared.Found.TheVariants.{At, End}
@@ -11,7 +11,7 @@ use Rattle.sheet.specs.declared.reader.Taken.{Taken}
 -- a sheet that is bad has no mask and no steps
 unfoldable pub check_of : List ℕ → Sheet
 check_of b =
-    if bad_sheet b then record { bad = true; mask = 0; steps = 0 }
+    if is_bad_sheet b then record { bad = true; mask = 0; steps = 0 }
     else record { bad = false; mask = mask_in b; steps = steps_of b }
 
 -- what the answer says of the bytes b: the rules' bad, or the rules' mask and steps

@@ -2,7 +2,7 @@
 use Rattle.std.specs.Prelude.{Bool, not, List, [], ◌∷◌, map, ℕ, eqb, length}
 use Rattle.rules.specs.Sets.{if◌then◌else◌, ◌||◌}
 use Rattle.rules.specs.declared.Step.{Step}
-use Rattle.rules.specs.Sheets.{version1, Written as Ruling, bad-sheet, no_room, wrote, sheet_bytes, written}
+use Rattle.rules.specs.Sheets.{version1, Written as Ruling, bad_sheet, no_room, wrote, sheet_bytes, written}
 use Rattle.sheet.specs.declared.Written.{Written}
 use Rattle.sheet.specs.declared.Written.TheVariants.{Done, BadSheet, NoRoom}
 
@@ -28,11 +28,11 @@ unequal kinds ids values = not (eqb (length ids) (length kinds)) || not (eqb (le
 
 -- a list is written as a sheet of version 1; three of other lengths are no list of steps: BAD SHEET
 unfoldable pub ruled : List ℕ → ℕ → List ℕ → List ℕ → List ℕ → Ruling
-ruled buf mask kinds ids values = if unequal kinds ids values then bad-sheet else written version1 buf mask (listed kinds ids values)
+ruled buf mask kinds ids values = if unequal kinds ids values then bad_sheet else written version1 buf mask (listed kinds ids values)
 
 -- how many bytes the sheet has that is written, and 0 where none is
 abbrev pub size_in : ℕ → Ruling → ℕ
-size_in n bad-sheet = 0
+size_in n bad_sheet = 0
 size_in n no_room = 0
 size_in n (wrote l) = n
 
@@ -41,7 +41,7 @@ ruled_size buf mask kinds ids values = size_in (length (sheet_bytes version1 mas
 
 -- the buffer that a ruling leaves of b
 abbrev pub buffer_of : List ℕ → Ruling → List ℕ
-buffer_of b bad-sheet = b
+buffer_of b bad_sheet = b
 buffer_of b no_room = b
 buffer_of b (wrote l) = l
 

@@ -19,7 +19,7 @@ use Rattle.rules.specs.State.{Relay, no_relay, no_desk, free, World, relay_at, d
 use Rattle.rules.specs.declared.Desk.{Desk}
 use Rattle.layout.specs.Layout.{desk_width, world_desks, world_width, relay_begin, desk_begin}
 use Rattle.layout.specs.Image.{head_bytes, relay_bytes, desk_bytes, image, world_at, good_bytes}
-use Rattle.rules.specs.Messages.{bad-world, bad-step}
+use Rattle.rules.specs.Messages.{bad_world, bad_step}
 use Rattle.rules.specs.Steps.{no_report, crashing}
 use Rattle.layout.specs.Lent.{kept, left, lent_start}
 use Rattle.layout.proofs.Widths.{length_head, length-desk, length-image}
@@ -169,12 +169,12 @@ module _ (b : List ℕ) (good : good_bytes b ≡ true) where
 -- ---- what is left of a start
 
 module _ (b : List ℕ) (mask : ℕ) where
-  pub start_misfit : length b ≢ world_width → kept bad-world b ≡ lent_start b mask
+  pub start_misfit : length b ≢ world_width → kept bad_world b ≡ lent_start b mask
   unfolding lent_start
   start_misfit h = rw (ne_eqb (length b) world_width h)
 
   module _ (long : length b ≡ world_width) where
-    pub start_none : mask ≡ 0 → kept bad-step b ≡ lent_start b mask
+    pub start_none : mask ≡ 0 → kept bad_step b ≡ lent_start b mask
     unfolding lent_start
     start_none e = rw (eq-eqb (length b) world_width long, eq-eqb mask 0 e)
 

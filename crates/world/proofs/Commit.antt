@@ -11,7 +11,7 @@ use Rattle.views.proofs.Truth.{decided}
 use Rattle.rows.specs.Bytes.{placed}
 use Rattle.rows.proofs.Laws.{placed_fits}
 use Rattle.rules.specs.Sets.{if◌then◌else◌}
-use Rattle.rules.specs.Messages.{Sending, outgoing, Refusal, bad-world, bad-step, empty, dead, not_now, not_yet, worn, no_room, number, Answer, refused, does}
+use Rattle.rules.specs.Messages.{Sending, outgoing, Refusal, bad_world, bad_step, empty, dead, not_now, not_yet, worn, no_room, number, Answer, refused, does}
 use Rattle.rules.specs.State.{Relay, no_relay, no_desk, World, relay_at, with_relay, with_desk, with_places}
 use Rattle.rules.specs.declared.Desk.{Desk}
 use Rattle.rules.specs.Sending.{place_all, free_in}
@@ -34,8 +34,8 @@ use Rattle.world.proofs.Good.{shaped}
 -- ---- the answer that a plan is for
 
 some_number : (x : Refusal) → number x ≢ 0
-some_number bad-world e = omega arith
-some_number bad-step e = omega arith
+some_number bad_world e = omega arith
+some_number bad_step e = omega arith
 some_number empty e = omega arith
 some_number dead e = omega arith
 some_number not_now e = omega arith

@@ -9,7 +9,7 @@ use lib.Dec.{eqb, leb, ltb}
 use borrow.Author.Tests.{ne_eqb, lt-ltb, le-ltb, lt-leb, eqb-true, ltb-true, not-true, not-false}
 use Rattle.views.proofs.Truth.{decided, contrary, cases, either_true, neither_true}
 use Rattle.rules.specs.Sets.{if◌then◌else◌}
-use Rattle.rules.specs.Messages.{Body, Message, Answer, dead, empty, bad-step, bad-world}
+use Rattle.rules.specs.Messages.{Body, Message, Answer, dead, empty, bad_step, bad_world}
 use Rattle.rules.specs.State.{Relay, Place, free, waiting, World, relay_at, desk_at, place_at}
 use Rattle.rules.specs.declared.Desk as rules-desk
 use Rattle.rules.specs.Steps.{drop, Act, no_report, deliver, bad, told, Outcome, refusal, relay_does, desk_does, alive_in, if_alive, freed, delivers, delivery, dropping, crashing, acts, stepped}
@@ -45,7 +45,7 @@ abbrev pub doing : World → ℕ → ℕ → ℕ → Outcome
 doing w kind who x = if eqb kind 8 then crashing w who else if ltb who 8 then relay_acts w kind who else desk_acts w kind (who - 8) x
 
 abbrev pub routed : World → ℕ → ℕ → ℕ → Outcome
-routed w kind who x = if ltb who 12 then if_alive w who (doing w kind who x) else refusal bad-step
+routed w kind who x = if ltb who 12 then if_alive w who (doing w kind who x) else refusal bad_step
 
 module _ (k : Step) where
   -- "A value other than 0 belongs to WRITE only."
@@ -203,10 +203,10 @@ module _ (b : List ℕ) (good : good_bytes b ≡ true) where
   unfolding lent_step stepped
   step_left k x e = rw (good, e)
 
-  pub bad-left : (k : Step) → told k ≡ bad → kept bad-step b ≡ lent_step b k
+  pub bad-left : (k : Step) → told k ≡ bad → kept bad_step b ≡ lent_step b k
   unfolding acts
   bad-left k e = step_left k bad e
 
-pub world-left : (b : List ℕ) → good_bytes b ≡ false → (k : Step) → kept bad-world b ≡ lent_step b k
+pub world-left : (b : List ℕ) → good_bytes b ≡ false → (k : Step) → kept bad_world b ≡ lent_step b k
 unfolding lent_step
 world-left b e k = rw e

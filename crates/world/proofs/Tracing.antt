@@ -18,7 +18,7 @@ use Rattle.rules.specs.declared.Step.{Step}
 use Rattle.rules.specs.Sending.{waiting_in}
 use Rattle.rules.specs.Steps.{Outcome, refusal, done, after, report, stepped}
 use Rattle.rules.specs.WellFormed.{well_formed}
-use Rattle.rules.specs.Sheets.{Sheet, bad, sheet, sheet_in, bad_sheet, steps_in, steps_of, form_in}
+use Rattle.rules.specs.Sheets.{Sheet, bad, sheet, sheet_in, is_bad_sheet, steps_in, steps_of, form_in}
 use Rattle.rules.specs.Runs.{outcomes, last_world, answer, fields}
 use Rattle.rules.proofs.Sends.{EventWell}
 use Rattle.rules.proofs.Counts.{places-all}
@@ -37,7 +37,7 @@ use Rattle.world.specs.declared.Answer.{Answer}
 use Rattle.world.specs.declared.run.Traced.{Traced}
 use Rattle.world.specs.Answer.{report_of, lent_of, columns}
 use Rattle.world.specs.Commits.{free_rows}
-use Rattle.world.specs.Tracing.{waiting_rows, trace_row_width, columns_bytes, columns_at, trace_row, trace_rows, Stepped, Ruling, bad-world, bad-sheet, no_room, runs}
+use Rattle.world.specs.Tracing.{waiting_rows, trace_row_width, columns_bytes, columns_at, trace_row, trace_rows, Stepped, Ruling, bad_world, bad_sheet, no_room, runs}
 use Rattle.world.specs.Tracing.{room_for, ruling, number_by, world_by, traces_wide, traced, steps_by, trace_by, trace_answer, trace_world, trace_left}
 use Rattle.world.proofs.Places.{free_rows_lem}
 
@@ -160,7 +160,7 @@ turned W k at l a w rows h e = record { world = h.world; row = rw (h.number, h.r
 
 -- ---- the steps of a sheet b that is not bad
 
-module _ (b : List ℕ) (good : bad_sheet b ≡ false) where
+module _ (b : List ℕ) (good : is_bad_sheet b ≡ false) where
   pub shown_few : length (steps_from b 6) ≤ 8000
   unfolding steps_from
   shown_few = omega (arith, (sound b good).few, count b (get_or b 5 0) (steps_from b 6) (record { good = good; masked = refl; steps = refl }))
@@ -220,7 +220,7 @@ module _ {W : World} {ks : List Step} {l w rows : List ℕ} {at : ℕ} {rest : L
 
 -- ---- an accepted sheet, started
 
-module _ (b : List ℕ) (mask : ℕ) (good : bad_sheet b ≡ false) (m : mask ≡ get_or b 5 0) (small : mask < 256) where
+module _ (b : List ℕ) (mask : ℕ) (good : is_bad_sheet b ≡ false) (m : mask ≡ get_or b 5 0) (small : mask < 256) where
   pub some : mask ≡ 0 → ⊥
   some z = (sound b good).some (sym m ∙ z)
 
@@ -248,7 +248,7 @@ module _ (b : List ℕ) (s : checked.Sheet) (e : s ≡ check_of b) where
       let read : sheet_in b ≡ sheet s.mask ks = sym (rw t at (ap (λ (x : checked.Sheet). read_of x b) e ∙ check_reads b)) in
       read ∙ ap (sheet s.mask) (sym (read-front b s.mask ks (accepted b s.mask ks read)))
 
-  pub found_facts : s.bad ≡ false → (bad_sheet b ≡ false) × (s.mask ≡ get_or b 5 0)
+  pub found_facts : s.bad ≡ false → (is_bad_sheet b ≡ false) × (s.mask ≡ get_or b 5 0)
   found_facts t =
       let a = accepted b s.mask (steps_from b 6) (found_good t) in
       (a.good, sym a.masked)
@@ -266,14 +266,14 @@ module _ (b : List ℕ) (s : checked.Sheet) (e : s ≡ check_of b) where
 -- ---- what is ruled, by what n steps may need
 
 module _ (needed : ℕ → ℕ) (b w out : List ℕ) where
-  pub ruling_misfit : (length w ≡ world_width → ⊥) → ruling needed b w out ≡ bad-world
+  pub ruling_misfit : (length w ≡ world_width → ⊥) → ruling needed b w out ≡ bad_world
   ruling_misfit h = rw (ne_eqb (length w) world_width h)
 
   module _ (long : length w ≡ world_width) (s : checked.Sheet) (e : s ≡ check_of b) where
     ruling_by : (x : Sheet) → sheet_in b ≡ x → ruling needed b w out ≡ room_for needed (length out) x
     ruling_by x f = rw (eq-eqb (length w) world_width long, f)
 
-    pub ruling-bad : s.bad ≡ true → ruling needed b w out ≡ bad-sheet
+    pub ruling-bad : s.bad ≡ true → ruling needed b w out ≡ bad_sheet
     ruling-bad t = ruling_by bad (found_bad b s e t)
 
     module _ (t : s.bad ≡ false) where
@@ -310,11 +310,11 @@ module _ (b w rows : List ℕ) where
   left_by x e w' rows' f g = (rw e, (rw e f, rw e g))
 
   pub misfit : (length w ≡ world_width → ⊥) → Left (record { answer = 1; steps = 0 }) w rows
-  misfit h = left_by bad-world (ruling_misfit traces_wide b w rows h) w rows refl refl
+  misfit h = left_by bad_world (ruling_misfit traces_wide b w rows h) w rows refl refl
 
   module _ (long : length w ≡ world_width) (s : checked.Sheet) (e : s ≡ check_of b) where
     pub left-bad : s.bad ≡ true → Left (record { answer = 9; steps = 0 }) w rows
-    left-bad t = left_by bad-sheet (ruling-bad traces_wide b w rows long s e t) w rows refl refl
+    left-bad t = left_by bad_sheet (ruling-bad traces_wide b w rows long s e t) w rows refl refl
 
     module _ (t : s.bad ≡ false) where
       pub left-full : length rows < traces_wide s.steps → Left (record { answer = 8; steps = 0 }) w rows

@@ -76,31 +76,31 @@ pub record Stepped (W : World) (k : Step) (at : ℕ) (l w rows : List ℕ) : Typ
 
 -- what comes of it: a refusal, or this mask and these steps are run
 pub data Ruling : Type 0 where
-  bad-world : Ruling
-  bad-sheet : Ruling
+  bad_world : Ruling
+  bad_sheet : Ruling
   no_room : Ruling
   runs : (mask : ℕ) → List Step → Ruling
 
 -- BAD SHEET, then NO ROOM: room for less than as many steps may need
 abbrev pub room_for : (ℕ → ℕ) → ℕ → Sheet → Ruling
-room_for needed room bad = bad-sheet
+room_for needed room bad = bad_sheet
 room_for needed room (sheet mask ks) = if ltb room (needed (length ks)) then no_room else runs mask ks
 
 -- BAD WORLD: "at a start, wrong length". Decided before anything is done.
 abbrev pub ruling : (ℕ → ℕ) → List ℕ → List ℕ → List ℕ → Ruling
-ruling needed b w out = if eqb (length w) world_width then room_for needed (length out) (sheet_in b) else bad-world
+ruling needed b w out = if eqb (length w) world_width then room_for needed (length out) (sheet_in b) else bad_world
 
 -- document 01's numbers
 abbrev pub number_by : Ruling → ℕ
-number_by bad-world = table.number table.bad-world
-number_by bad-sheet = sheets.number sheets.bad-sheet
+number_by bad_world = table.number table.bad_world
+number_by bad_sheet = sheets.number sheets.bad_sheet
 number_by no_room = table.number table.no_room
 number_by (runs mask ks) = 0
 
 -- a refusal changes no byte of the world
 abbrev pub world_by : List ℕ → Ruling → List ℕ
-world_by w bad-world = w
-world_by w bad-sheet = w
+world_by w bad_world = w
+world_by w bad_sheet = w
 world_by w no_room = w
 world_by w (runs mask ks) = image (last_world (start mask) ks)
 
@@ -114,14 +114,14 @@ traced b w rows = ruling traces_wide b w rows
 
 -- how many steps are run
 abbrev pub steps_by : Ruling → ℕ
-steps_by bad-world = 0
-steps_by bad-sheet = 0
+steps_by bad_world = 0
+steps_by bad_sheet = 0
 steps_by no_room = 0
 steps_by (runs mask ks) = length ks
 
 abbrev pub trace_by : Ruling → List ℕ
-trace_by bad-world = []
-trace_by bad-sheet = []
+trace_by bad_world = []
+trace_by bad_sheet = []
 trace_by no_room = []
 trace_by (runs mask ks) = trace_rows (outcomes (start mask) ks)
 

@@ -1,7 +1,7 @@
 // A whole run of a sheet: a row of its trace for each step, and the last world. Document 01, "Sheets and the printed record".
 ghost use Rattle.std.specs.Prelude.{◌≡◌, true, false, [], ◌∷◌, ◌*◌, ◌≤◌, length, get_or};
 ghost use Rattle.rows.specs.Bytes.{placed};
-ghost use Rattle.rules.specs.Sheets.{bad_sheet};
+ghost use Rattle.rules.specs.Sheets.{is_bad_sheet};
 ghost use Rattle.rules.specs.Runs.{fields, outcomes, last_world};
 ghost use Rattle.layout.specs.Image.{image, world_at, good_bytes};
 ghost use Rattle.sheet.specs.Reading.{steps_from};
@@ -107,7 +107,7 @@ fn turn(w: &mut [u8], rows: &mut [u8], at: usize, k: Step)
 
 // "It is read from the front one step at a time"
 fn turns(sheet: &[u8], w: &mut [u8], rows: &mut [u8])
-    requires w_value { (good_bytes w.old ≡ true) × (bad_sheet sheet.now ≡ false) }
+    requires w_value { (good_bytes w.old ≡ true) × (is_bad_sheet sheet.now ≡ false) }
     requires trace_row_width_in_bounds { length (steps_from sheet.now 6) * trace_row_width ≤ length rows.old }
     ensures world { w.new ≡ image (last_world (world_at w.old) (steps_from sheet.now 6)) }
     ensures rows { rows.new

@@ -4,7 +4,7 @@ use mathlib.Core.Bool.{◌&&◌}
 use borrow.Author.Tests.{not-true, not-false}
 use Rattle.views.specs.Row.{views_of}
 use Rattle.rules.specs.Sets.{member, inside}
-use Rattle.rules.specs.Messages.{does, bad-step, not_yet}
+use Rattle.rules.specs.Messages.{does, bad_step, not_yet}
 use Rattle.rules.specs.State.{no_relay}
 use Rattle.rules.specs.Relays.{stopped, install_heard}
 use Rattle.state.specs.Meaning.{relay_of, part_of}
@@ -15,7 +15,7 @@ use Rattle.relay.proofs.install_heard.Statement.{statement}
 use Rattle.relay.proofs.install_heard.Tie as tie
 
 returns : tie.Need-returns
-returns c = c.refuses.ensures bad-step refl ∙ rw (sym c.before.before.shows.ensures ∙ not-true _ c.before.if1.true)
+returns c = c.refuses.ensures bad_step refl ∙ rw (sym c.before.before.shows.ensures ∙ not-true _ c.before.if1.true)
 
 returns-2 : tie.Need-returns-2
 unfolding install_heard part_of relay_of

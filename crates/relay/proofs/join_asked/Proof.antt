@@ -4,7 +4,7 @@ use mathlib.Core.Bool.{true, false}
 use native.Mathlib.Omega.{arith}
 use borrow.Author.Tests.{lt-ltb, le-ltb}
 use Rattle.rules.specs.Sets.{joins, within}
-use Rattle.rules.specs.Messages.{bad-step, not_now}
+use Rattle.rules.specs.Messages.{bad_step, not_now}
 use Rattle.rules.specs.Relays.{join_asked}
 use Rattle.state.specs.Meaning.{relay_of, part_of}
 use Rattle.messages.proofs.Made.{none, made_says, sent_says}
@@ -15,7 +15,7 @@ use Rattle.relay.proofs.join_asked.Tie as tie
 
 returns : tie.Need-returns
 unfolding join_answer
-returns c = c.refuses.ensures bad-step refl ∙ rw (le-ltb c.before.before.args.s 8 c.before.if1.true)
+returns c = c.refuses.ensures bad_step refl ∙ rw (le-ltb c.before.before.args.s 8 c.before.if1.true)
 
 returns-2 : tie.Need-returns-2
 unfolding join_answer join_asked part_of relay_of

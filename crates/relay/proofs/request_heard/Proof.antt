@@ -2,7 +2,7 @@
 use mathlib.Core.Path.{refl, sym, ◌∙◌}
 use native.Mathlib.Omega.{arith}
 use borrow.Author.Tests.{eq-eqb, ne_eqb, lt-ltb, le-ltb, not-true, not-false}
-use Rattle.rules.specs.Messages.{bad-step}
+use Rattle.rules.specs.Messages.{bad_step}
 use Rattle.rules.specs.State.{with_pending}
 use Rattle.rules.specs.Relays.{request_heard}
 use Rattle.state.specs.Meaning.{relay_of, part_of}
@@ -11,7 +11,7 @@ use Rattle.relay.proofs.request_heard.Statement.{statement}
 use Rattle.relay.proofs.request_heard.Tie as tie
 
 returns : tie.Need-returns
-returns c = c.refuses.ensures bad-step refl ∙ rw (le-ltb c.before.before.args.from 12 c.before.if1.true)
+returns c = c.refuses.ensures bad_step refl ∙ rw (le-ltb c.before.before.args.from 12 c.before.if1.true)
 
 returns-2 : tie.Need-returns-2
 unfolding request_heard part_of relay_of

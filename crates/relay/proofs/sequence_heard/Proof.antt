@@ -2,7 +2,7 @@
 use mathlib.Core.Path.{◌≡◌, refl, sym, ◌∙◌}
 use mathlib.Core.Bool.{true}
 use borrow.Author.Tests.{not-true, not-false}
-use Rattle.rules.specs.Messages.{bad-step}
+use Rattle.rules.specs.Messages.{bad_step}
 use Rattle.state.specs.Meaning.{part_of}
 use Rattle.relay.specs.Fitting.{shows_view}
 use Rattle.rules.proofs.Generators.{view_of, converged-leaves}
@@ -14,7 +14,7 @@ shown : (c : tie.Else1) → let a = c.before.before.args in shows_view a.v (part
 shown c = sym c.before.shows_view_lem.ensures ∙ not-false _ c.if1.false
 
 returns : tie.Need-returns
-returns c = c.refuses.ensures bad-step refl ∙ rw (sym c.before.before.shows_view_lem.ensures ∙ not-true _ c.before.if1.true)
+returns c = c.refuses.ensures bad_step refl ∙ rw (sym c.before.before.shows_view_lem.ensures ∙ not-true _ c.before.if1.true)
 
 returns-2 : tie.Need-returns-2
 returns-2 c =

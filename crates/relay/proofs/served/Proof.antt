@@ -2,14 +2,14 @@
 use mathlib.Core.Path.{refl, sym, ◌∙◌}
 use native.Mathlib.Omega.{arith}
 use borrow.Author.Tests.{lt-ltb, le-ltb, not-true, not-false}
-use Rattle.rules.specs.Messages.{bad-step, not_yet}
+use Rattle.rules.specs.Messages.{bad_step, not_yet}
 use Rattle.state.specs.Meaning.{relay_of, part_of}
 use Rattle.messages.proofs.Made.{none, made_says, sent_says}
 use Rattle.relay.proofs.served.Statement.{statement}
 use Rattle.relay.proofs.served.Tie as tie
 
 returns : tie.Need-returns
-returns c = c.refuses.ensures bad-step refl ∙ rw (le-ltb c.before.before.args.from 12 c.before.if1.true)
+returns c = c.refuses.ensures bad_step refl ∙ rw (le-ltb c.before.before.args.from 12 c.before.if1.true)
 
 returns-2 : tie.Need-returns-2
 unfolding part_of relay_of

@@ -1,7 +1,7 @@
 -- `relay::state_heard` meets its contract. Assumes nothing.
 use mathlib.Core.Path.{refl, sym, ◌∙◌}
 use borrow.Author.Tests.{lt-ltb, le-ltb, not-true, not-false}
-use Rattle.rules.specs.Messages.{bad-step}
+use Rattle.rules.specs.Messages.{bad_step}
 use Rattle.rules.specs.Relays.{state_heard}
 use Rattle.state.specs.Meaning.{relay_of, part_of}
 use Rattle.relay.proofs.Laws.{gathered-pair}
@@ -9,12 +9,12 @@ use Rattle.relay.proofs.state_heard.Statement.{statement}
 use Rattle.relay.proofs.state_heard.Tie as tie
 
 returns : tie.Need-returns
-returns c = c.refuses.ensures bad-step refl ∙ rw (le-ltb c.before.before.args.from 8 c.before.if1.true)
+returns c = c.refuses.ensures bad_step refl ∙ rw (le-ltb c.before.before.args.from 8 c.before.if1.true)
 
 returns-2 : tie.Need-returns-2
 returns-2 c =
     let c2 = c.before.before in
-    c.refuses2.ensures bad-step refl ∙ rw (
+    c.refuses2.ensures bad_step refl ∙ rw (
       lt-ltb c2.before.before.args.from 8 c2.before.if1.false,
       sym c2.shows.ensures ∙ not-true _ c.before.if2.true,
     )

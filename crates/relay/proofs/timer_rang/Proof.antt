@@ -4,7 +4,7 @@ use mathlib.Core.List.{[], ◌∷◌}
 use borrow.Author.Tests.{not-true, not-false}
 use Rattle.views.proofs.Rows.{held}
 use Rattle.rules.specs.Sets.{joined}
-use Rattle.rules.specs.Messages.{bad-step, not_now}
+use Rattle.rules.specs.Messages.{bad_step, not_now}
 use Rattle.rules.specs.Generators.{generator_for, proposes}
 use Rattle.rules.specs.Relays.{timer_rang}
 use Rattle.state.specs.Meaning.{relay_of, part_of}
@@ -16,7 +16,7 @@ use Rattle.relay.proofs.timer_rang.Tie as tie
 
 returns : tie.Need-returns
 unfolding timer_answer timer_rang part_of relay_of
-returns c = c.refuses.ensures bad-step refl ∙ rw (sym c.before.before.shows_view_lem.ensures ∙ not-true _ c.before.if1.true)
+returns c = c.refuses.ensures bad_step refl ∙ rw (sym c.before.before.shows_view_lem.ensures ∙ not-true _ c.before.if1.true)
 
 returns-2 : tie.Need-returns-2
 unfolding timer_answer timer_rang part_of relay_of

@@ -2,7 +2,7 @@
 use mathlib.Core.Path.{refl, ◌∙◌}
 use Prim.Native.Nat.{◌<◌}
 use borrow.Author.Rules.{rules}
-use Rattle.rules.specs.Messages.{bad-world, bad-step}
+use Rattle.rules.specs.Messages.{bad_world, bad_step}
 use Rattle.state.specs.Meaning.{event_of}
 use Rattle.world.proofs.Begun.{start_misfit, start_none, start-done}
 use Rattle.world.proofs.start.Statement.{statement}
@@ -11,13 +11,13 @@ use Rattle.world.proofs.start.Tie as tie
 returns : tie.Need-returns
 returns c =
     let a = c.before.before.before.args in
-    c.refuses.ensures bad-world a.w.now refl ∙ start_misfit a.w.now a.mask c.before.if1.true
+    c.refuses.ensures bad_world a.w.now refl ∙ start_misfit a.w.now a.mask c.before.if1.true
 
 returns-2 : tie.Need-returns-2
 returns-2 c =
     let long = c.before.before in
     let a = long.before.before.args in
-    c.refuses2.ensures bad-step a.w.now refl ∙ start_none a.w.now a.mask long.if1.false c.before.if2.true
+    c.refuses2.ensures bad_step a.w.now refl ∙ start_none a.w.now a.mask long.if1.false c.before.if2.true
 
 returns-3 : tie.Need-returns-3
 unfolding event_of

@@ -2,7 +2,7 @@
 use mathlib.Core.Path.{refl, sym, ◌∙◌}
 use borrow.Author.Rules.{rules}
 use borrow.Author.Tests.{not-true, not-false}
-use Rattle.rules.specs.Messages.{bad-world}
+use Rattle.rules.specs.Messages.{bad_world}
 use Rattle.world.proofs.Routes.{world-left}
 use Rattle.world.proofs.step.Statement.{statement}
 use Rattle.world.proofs.step.Tie as tie
@@ -11,7 +11,7 @@ returns : tie.Need-returns
 returns c =
     let tested = c.before.before in
     let a = tested.before.before.before.args in
-    c.refuses.ensures bad-world a.w.now refl ∙ world-left a.w.now (sym tested.is-good.ensures ∙ not-true _ c.before.if1.true) a.k
+    c.refuses.ensures bad_world a.w.now refl ∙ world-left a.w.now (sym tested.is-good.ensures ∙ not-true _ c.before.if1.true) a.k
 
 returns-2 : tie.Need-returns-2
 returns-2 c = c.before.before.step-good.ensures

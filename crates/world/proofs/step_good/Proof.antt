@@ -5,7 +5,7 @@ use Prim.Native.Nat.{◌<◌}
 use native.Mathlib.Omega.{arith}
 use borrow.Author.Rules.{rules}
 use borrow.Author.Tests.{eq-eqb, ne_eqb, lt-ltb, le-ltb, not-true, not-false}
-use Rattle.rules.specs.Messages.{bad-step, dead}
+use Rattle.rules.specs.Messages.{bad_step, dead}
 use Rattle.layout.specs.Image.{world_at, good_bytes}
 use Rattle.layout.specs.Lent.{left, lent_step}
 use Rattle.world.proofs.Routes.{doing, routed, step_left, bad-left, told_valued, told-place, acted, dead-left, alive-left}
@@ -16,7 +16,7 @@ returns : tie.Need-returns
 returns c =
     let a = c.before.before.before.before in
     let b = a.args.w.now in
-    c.refuses.ensures bad-step b refl ∙ bad-left b a.requires a.args.k (told_valued a.args.k c.before.if1.true)
+    c.refuses.ensures bad_step b refl ∙ bad-left b a.requires a.args.k (told_valued a.args.k c.before.if1.true)
 
 returns-2 : tie.Need-returns-2
 returns-2 c =
@@ -43,7 +43,7 @@ returns-3 : tie.Need-returns-3
 returns-3 c =
     let found = c.before.before in
     let a = found.before.before.before.before.before in
-    c.refuses2.ensures bad-step a.args.w.now refl ∙ (rw (le-ltb found.actor.result 12 c.before.if3.true) at (routes found))
+    c.refuses2.ensures bad_step a.args.w.now refl ∙ (rw (le-ltb found.actor.result 12 c.before.if3.true) at (routes found))
 
 returns-4 : tie.Need-returns-4
 returns-4 c =
