@@ -2,7 +2,6 @@
 // before it ends.
 #![tactic(auto)]
 
-
 // ---- How wide one field is: a flag, a small number or a set of relays; a view, a try or a count; a value
 
 pub const BYTE: u8 = 1;

@@ -13,7 +13,7 @@ use borrow.Author.Tests.{eqb-true, eqb-false}
 use Rattle.views.proofs.Truth.{contrary, cases}
 use Rattle.rules.specs.Sets.{◌&&◌, reaches, inside}
 use Rattle.rules.specs.Stamps.{Pair}
-use Rattle.rules.specs.Messages.{Body, request, view, proposal, converged, install, state, get, put, view_reply, pair_reply, ack, Message, outgoing, Event, read_done, write_done, Answer, refused, does}
+use Rattle.rules.specs.Messages.{Body, request, view, proposal, converged, install, state, get, put, view_reply, pair_reply, ack, Message, outgoing, Event, nothing, opened, read_done, write_done, Answer, refused, does}
 use Rattle.rules.specs.State.{Desk, Phase, Idle, Read1, Read2, Write1, Write2, Relay, Place, free, waiting, World, crashed_desk, no_desk, desk_at, place_at, with_desk, with_places}
 use Rattle.rules.specs.Sending.{place_all}
 use Rattle.rules.specs.Desks.{is_idle, is_first, is_second, full, begins, read_asked, write_asked, current, view_came, notes_pair, notes_ack, takes_stamp, completes, counted, pair_came, ack_came, desk_hears}
@@ -88,6 +88,8 @@ pub data GoesOn (w : World) (n : ℕ) (o : Outcome) : Type 0 where
 
 module _ (w : World) (n : ℕ) (busy : Busy (desk_at w n)) where
   tells : (e : Event) (who : ℕ) → Ends e → (Ends (reports e who).event) × ((reports e who).who ≡ who)
+  tells nothing who h = elim h [ ]
+  tells (opened v) who h = elim h [ ]
   tells (read_done p) who h = (h, refl)
   tells (write_done p) who h = (h, refl)
 

@@ -11,7 +11,7 @@ use borrow.Author.Tests.{leb-true, le-ltb, ne_eqb}
 use Rattle.views.proofs.Truth.{cases}
 use Rattle.rules.specs.Sets.{◌&&◌, ◌||◌, if◌then◌else◌, within, member, reaches, inside, joins, none}
 use Rattle.rules.specs.Stamps.{Pair}
-use Rattle.rules.specs.Messages.{Body, request, view, proposal, converged, install, state, get, put, view_reply, pair_reply, ack, Message, Sending, outgoing, Event, bad_step, empty, dead, not_now, not_yet, worn, no_room, number, Answer, refused, does, sends, to_members}
+use Rattle.rules.specs.Messages.{Body, request, view, proposal, converged, install, state, get, put, view_reply, pair_reply, ack, Message, Sending, outgoing, Event, bad_world, bad_step, empty, dead, not_now, not_yet, worn, no_room, number, Answer, refused, does, sends, to_members}
 use Rattle.rules.specs.State.{Desk, Phase, Idle, Read1, Read2, Write1, Write2, Transfer, Relay, Place, free, waiting, World, relay_at, desk_at, place_at}
 use Rattle.rules.specs.Sending.{free_in}
 use Rattle.rules.specs.Generators.{Turn}
@@ -88,6 +88,7 @@ tested-own r t = cases Free (passes t) (λ _. cases Free (none (onward t)) (λ _
 
 first-own : (ss : List Sending) (a : Answer Relay) → Free a → Free (sent_first ss a)
 first-own ss (does r later e) deed = deed
+first-own ss (refused x) own = elim own [ ]
 
 install-own : (s : ℕ) (r : Relay) (o w : ℕ) (q : List ℕ) → Own Relay false (early s r o) false (install_heard s r o w q)
 unfolding install_heard takes_install
@@ -186,6 +187,11 @@ module _ (f : World) (n : ℕ) where
   relay_rows s g t (refused not_now) now fits = refl
   relay_rows s g t (refused not_yet) yet fits = refl
   relay_rows s g t (refused worn) wear fits = refl
+  relay_rows s g t (refused bad_world) own fits = elim own [ ]
+  relay_rows s g t (refused bad_step) own fits = elim own [ ]
+  relay_rows s g t (refused empty) own fits = elim own [ ]
+  relay_rows s g t (refused dead) own fits = elim own [ ]
+  relay_rows s g t (refused no_room) own fits = elim own [ ]
   relay_rows s g t (does r ss e) deed fits =
       rw (← fits.0, ← fits.1) (room_row
       (leb (length (outgoing s ss)) (free_in f.places) && (leb (length r.generators) 8 && leb (length r.transfers) 8)) _ refl)
@@ -196,6 +202,11 @@ module _ (f : World) (n : ℕ) where
   desk_rows d (refused not_now) now = refl
   desk_rows d (refused not_yet) yet = refl
   desk_rows d (refused worn) wear = refl
+  desk_rows d (refused bad_world) own = elim own [ ]
+  desk_rows d (refused bad_step) own = elim own [ ]
+  desk_rows d (refused empty) own = elim own [ ]
+  desk_rows d (refused dead) own = elim own [ ]
+  desk_rows d (refused no_room) own = elim own [ ]
   desk_rows d (does next ss e) deed = room_row (leb (length (outgoing (8 + d) ss)) (free_in f.places)) _ refl
 
 -- what a step at an actor that lives comes to

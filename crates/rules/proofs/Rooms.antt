@@ -1,7 +1,7 @@
 -- A transfer that is just taken never passes the entry test: so no step both takes and frees a transfer, and the length of the list after a step
 -- says what the step needed. Assumes nothing.
 use mathlib.Core.Path.{◌≡◌, refl}
-use mathlib.Core.Bool.{true, false, not, and-false}
+use mathlib.Core.Bool.{false, not, and-false}
 use mathlib.Core.List.{List}
 use Prim.Native.Nat.{ℕ}
 use Rattle.views.proofs.Digits.{bit_none}

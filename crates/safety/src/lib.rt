@@ -1,3 +1,2 @@
 // Demand 3 over the rules: proofs only
 #![tactic(auto)]
-
