@@ -30,7 +30,7 @@ unfolding some
 has_in [] v e = absurd (contrary e refl)
 has_in (w ∷ q) v e = ⊎_elim (λ p. Memᴰ.head (eqb-true v w p)) (λ p. Memᴰ.tail (has_in q v p)) (either_true (eqb v w) (has_of q v) e)
 
-pub in_has : {q : List ℕ} {v : ℕ} → v ∈ q → has_of q v ≡ true
+pub in_has : {v : ℕ} {q : List ℕ} → v ∈ q → has_of q v ≡ true
 unfolding some
 in_has {v = v} (Memᴰ.head {x = w} {xs = q} e) = true_left (has_of q v) (eq-eqb v w e)
 in_has {v = v} (Memᴰ.tail {x = w} {xs = q} m) = has_rest v w q (in_has m)

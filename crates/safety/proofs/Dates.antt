@@ -67,9 +67,9 @@ dates_none = record {
 }
 
 -- the last entry of a past is the newest, or in the past of the rest
-past_cases : {e f : Entry} {l m : Log} → Past (e ∷ l) (f ∷ m) → ((f ≡ e) × (m ≡ l)) ⊎ Past l (f ∷ m)
+past_cases : {l : Log} {e f : Entry} {m : Log} → Past (e ∷ l) (f ∷ m) → ((f ≡ e) × (m ≡ l)) ⊎ Past l (f ∷ m)
 past_cases now = inl (refl, refl)
-past_cases {e} {f} {l} {m} (back {e = g} p) = go (past_cases p)
+past_cases {l} {e} {f} {m} (back {e = g} p) = go (past_cases p)
   where
     go : ((g ≡ e) × ((f ∷ m) ≡ l)) ⊎ Past l (g ∷ f ∷ m) → ((f ≡ e) × (m ≡ l)) ⊎ Past l (f ∷ m)
     go (inl h) = inr (subst (λ (x : Log). Past l x) (sym h.1) now)

@@ -29,11 +29,11 @@ pub record Place (t : Log) (e : Entry) : Type 0 where
   pub before : Log
   pub past : Past t (e ∷ before)
 
-pub place : {t : Log} {e : Entry} → t ∋ e → Place t e
+pub place : {e : Entry} {t : Log} → t ∋ e → Place t e
 place {e = e} (Memᴰ.head {x = x} {xs = l} c) = record { before = l; past = subst (λ (y : Entry). Past (x ∷ l) (y ∷ l)) (sym c) now }
 place (Memᴰ.tail m) = let p = place m in record { before = p.before; past = past_later p.past }
 
-pub past_tail : {e f : Entry} {l m : Log} → Past (f ∷ m) (e ∷ l) → Past m l
+pub past_tail : {f : Entry} {m : Log} {e : Entry} {l : Log} → Past (f ∷ m) (e ∷ l) → Past m l
 past_tail now = now
 past_tail (back p) = back (past_tail p)
 

@@ -180,6 +180,6 @@ pub run-steps : {old : Log} {C : Setting} {i : ℕ} {w : World} {ts : List Told}
     → (j : ℕ) × Run old C (last_world w ks) j (told_in i ts ks (outcomes w ks)) (ops ++ ended_in i ts ks (outcomes w ks)) (vs ++ opened_in (outcomes w ks))
 unfolding last_world told_in outcomes ended_in opened_in
 run-steps {i = i} {ops = ops} {vs = vs} R [] = (i, recast refl (sym (append-nil ops)) (sym (append-nil vs)) R)
-run-steps {ops = ops} {vs = vs} R (k ∷ ks) =
-    let h = run-steps (run_step R k) ks in
+run-steps {i = i} {ops = ops} {vs = vs} R (k ∷ ks) =
+    let h = run-steps {i = suc i} (run_step R k) ks in
     (h.0, recast refl (append_assoc ops _ _) (append_assoc vs _ _) h.1)

@@ -1,0 +1,8 @@
+-- `messages::one_sent` meets its contract. Assumes nothing.
+use Rattle.state.specs.Plans.{padded}
+use Rattle.messages.specs.Made.{all_sent}
+use Rattle.messages.proofs.one_sent.Goals as goal
+
+pub returns : goal.returns
+unfolding all_sent padded
+returns c = rw c.nothing_sent.ensures at c.sent_before.ensures
