@@ -1,0 +1,33 @@
+-- `desk::hears` meets its contract. Assumes nothing.
+use mathlib.Core.Path.{sym, ◌∙◌}
+use mathlib.Core.Bool.{true}
+use borrow.Author.Tests.{not-true, not-false, lt-ltb}
+use Rattle.views.proofs.Sets.{member_lt}
+use Rattle.rules.specs.Desks.{current, view_came, pair_came, ack_came, desk_hears}
+use Rattle.layout.specs.Image.{body_in}
+use Rattle.rules.proofs.Desks.{current_member}
+use Rattle.state.specs.Meaning.{body_of}
+use Rattle.desk.specs.Replies.{reply_noted}
+use Rattle.desk.proofs.Laws.{no_reply, says_ack, unheard}
+use Rattle.desk.proofs.hears.Goals as goal
+
+pub returns-then-kind : goal.returns-then-kind
+returns-then-kind c = rw (no_reply c.args.n c.args.d c.args.from c.args.b c.if-kind.true) c.does_nothing.ensures
+
+pub returns-then-not-current : goal.returns-then-not-current
+returns-then-not-current c = rw (unheard c.args.b c.if-kind.false c.args.n c.args.d c.args.from (sym c.current.ensures ∙ not-true _ c.if-not-current.true-raw)) c.does_nothing-then-not-current.ensures
+
+pub returns-then-kind-eq-VIEW_REPLY : goal.returns-then-kind-eq-VIEW_REPLY
+unfolding body_of body_in desk_hears view_came
+returns-then-kind-eq-VIEW_REPLY c = rw (c.if-kind-eq-VIEW_REPLY.true, (sym c.current.ensures ∙ not-false _ c.if-not-current.false-raw)) c.view_came.ensures
+
+pub returns-then-kind-eq-PAIR_REPLY : goal.returns-then-kind-eq-PAIR_REPLY
+unfolding body_of body_in desk_hears pair_came reply_noted
+returns-then-kind-eq-PAIR_REPLY c = rw (c.if-kind-eq-PAIR_REPLY.true, (sym c.current.ensures ∙ not-false _ c.if-not-current.false-raw)) (rw (lt-ltb _ _ ((member_lt c.args.d.view c.args.from (current_member c.args.d c.args.from c.args.b.tries ((sym c.current.ensures ∙ not-false _ c.if-not-current.false-raw)))))) at c.pair_came.ensures)
+
+pub ack_came-requires : goal.ack_came-requires
+ack_came-requires c = (member_lt c.args.d.view c.args.from (current_member c.args.d c.args.from c.args.b.tries ((sym c.current.ensures ∙ not-false _ c.if-not-current.false-raw))))
+
+pub returns : goal.returns
+unfolding desk_hears ack_came
+returns c = rw (says_ack c.args.b c.if-kind.false c.if-kind-eq-VIEW_REPLY.false c.if-kind-eq-PAIR_REPLY.false, (sym c.current.ensures ∙ not-false _ c.if-not-current.false-raw)) c.ack_came.ensures

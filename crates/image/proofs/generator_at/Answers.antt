@@ -1,0 +1,8 @@
+-- `image::generator_at` meets its contract. Assumes nothing.
+use Rattle.image.specs.Parts.{generator_row_at}
+use Rattle.image.proofs.Ends.{alike_end, generator_alike}
+use Rattle.image.proofs.generator_at.Goals as goal
+
+pub returns : goal.returns
+unfolding generator_row_at
+returns c = cc (generator_alike (alike_end c.args.s.now c.args.at _ c.smaller-a.ensures))

@@ -1,0 +1,8 @@
+-- `image::transfer_at` meets its contract. Assumes nothing.
+use Rattle.image.specs.Parts.{transfer_row_at}
+use Rattle.image.proofs.Ends.{alike_end, transfer_alike}
+use Rattle.image.proofs.transfer_at.Goals as goal
+
+pub returns : goal.returns
+unfolding transfer_row_at
+returns c = cc (transfer_alike (alike_end c.args.s.now c.args.at _ c.smaller-a.ensures))

@@ -1,0 +1,5 @@
+-- `record::put_number` ends: the measure is the number.
+use Rattle.record.proofs.+put_number.Given as goal
+
+abbrev pub decreases-put_number : goal.decreases-put_number
+decreases-put_number l = l.n

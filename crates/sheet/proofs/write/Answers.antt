@@ -1,0 +1,37 @@
+-- `sheet::write` meets its contract. Assumes nothing.
+use mathlib.Core.Path.{sym}
+use native.Mathlib.Omega.{arith}
+use borrow.Author.Rules.{rules}
+use Rattle.sheet.specs.Writing.{ruled_size}
+use Rattle.sheet.proofs.Writing.{bad, few, counted, roomless, done, left}
+use Rattle.sheet.proofs.write.Goals as goal
+
+pub returns-then-unequal-mask : goal.returns-then-unequal-mask
+unfolding ruled_size
+returns-then-unequal-mask c = 
+    let e = bad c.args.buf.now c.args.mask c.args.kinds.now c.args.ids.now c.args.values.now c.if-unequal-mask.true in
+    ((rw e, rw e), rw e)
+
+pub overflow_mul-size : goal.overflow_mul-size
+overflow_mul-size c = omega (arith, (few c.args.buf.now c.args.mask c.args.kinds.now c.args.ids.now c.args.values.now c.if-unequal-mask.false))
+
+pub overflow_add-size : goal.overflow_add-size
+overflow_add-size c = omega (arith, (few c.args.buf.now c.args.mask c.args.kinds.now c.args.ids.now c.args.values.now c.if-unequal-mask.false))
+
+pub returns-then-buf-size : goal.returns-then-buf-size
+unfolding ruled_size
+returns-then-buf-size c = 
+    let e = roomless c.args.buf.now c.args.mask c.args.kinds.now c.args.ids.now c.args.values.now c.if-unequal-mask.false c.if-buf-size.true in
+    ((rw e, rw e), rw e)
+
+pub put_steps-requires : goal.put_steps-requires
+put_steps-requires c = 
+    let n = counted c.args.buf.now c.args.mask c.args.kinds.now c.args.ids.now c.args.values.now c.if-unequal-mask.false in
+    (sym n, search rules)
+
+pub returns : goal.returns
+returns c = 
+    (
+      done c.args.buf.now c.args.mask c.args.kinds.now c.args.ids.now c.args.values.now c.if-unequal-mask.false c.if-buf-size.false,
+      left c.args.buf.now c.args.mask c.args.kinds.now c.args.ids.now c.args.values.now c.if-unequal-mask.false c.if-buf-size.false _ _ c.put_head.ensures c.put_steps.ensures,
+    )
