@@ -12,35 +12,27 @@ use Rattle.messages.proofs.Made.{made_says, sent_says}
 use Rattle.generator.proofs.Rows.{noted_means}
 use Rattle.generator.proofs.converged_heard.Goals as goal
 
--- the notes, the new one among them
-notes_are : (c : goal.After-agree)
-    → let a = c.before.before.before.before.args in notes_of c.before.noted.result ≡ set (notes_of a.g.convergences) a.from (views_of a.q)
-notes_are c = noted_means _ _ _ c.before.noted.ensures
-
--- what the rule asks: do the notes agree, the new one among them; is it the last raised
-asked : (c : goal.After-agree)
-    → let a = c.before.before.before.before.args in
-    c.agree.result ≡ agree a.g.view (set (notes_of a.g.convergences) a.from (views_of a.q)) (views_of a.q)
-asked c =
-    let a = c.before.before.before.before.args in
-    c.agree.ensures ∙ ap (λ (n : List (List ℕ)). agree a.g.view n (views_of a.q)) (notes_are c)
-
-repeats : (c : goal.After-same)
-    → let a = c.before.before.before.before.before.before.args in
-    c.same.result ≡ same (views_of a.q) (views_of a.g.raised)
-repeats c = c.same.ensures
-
 pub returns-then-not-agree : goal.returns-then-not-agree
 unfolding converged_heard notes_converged generator_of
-returns-then-not-agree c = c.quiet.ensures ∙ rw (notes_are c, ← asked c, not-true c.agree.result c.if-not-agree.true-raw)
+returns-then-not-agree c = 
+    let notes_are : notes_of c.noted-convergences.result ≡ set (notes_of c.args.g.convergences) c.args.from (views_of c.args.q) = noted_means _ _ _ c.noted-convergences.ensures in
+    let asked : c.agree.result ≡ agree c.args.g.view (set (notes_of c.args.g.convergences) c.args.from (views_of c.args.q)) (views_of c.args.q) = c.agree.ensures ∙ ap (λ (n : List (List ℕ)). agree c.args.g.view n (views_of c.args.q)) notes_are in
+    c.quiet.ensures ∙ rw (notes_are, ← asked, not-true c.agree.result c.if-not-agree.true-raw)
 
 pub returns-then-same : goal.returns-then-same
 unfolding converged_heard notes_converged generator_of
-returns-then-same c = c.quiet-then-same.ensures ∙ rw (notes_are c, ← asked c, not-false c.agree.result c.if-not-agree.false-raw, ← repeats c, c.if-same.true)
+returns-then-same c = 
+    let notes_are : notes_of c.noted-convergences.result ≡ set (notes_of c.args.g.convergences) c.args.from (views_of c.args.q) = noted_means _ _ _ c.noted-convergences.ensures in
+    let asked : c.agree.result ≡ agree c.args.g.view (set (notes_of c.args.g.convergences) c.args.from (views_of c.args.q)) (views_of c.args.q) = c.agree.ensures ∙ ap (λ (n : List (List ℕ)). agree c.args.g.view n (views_of c.args.q)) notes_are in
+    let repeats : c.same.result ≡ same (views_of c.args.q) (views_of c.args.g.raised) = c.same.ensures in
+    c.quiet-then-same.ensures ∙ rw (notes_are, ← asked, not-false c.agree.result c.if-not-agree.false-raw, ← repeats, c.if-same.true)
 
 pub returns : goal.returns
 unfolding converged_heard notes_converged raises generator_of
 returns c = 
+    let notes_are : notes_of c.noted-convergences.result ≡ set (notes_of c.args.g.convergences) c.args.from (views_of c.args.q) = noted_means _ _ _ c.noted-convergences.ensures in
+    let asked : c.agree.result ≡ agree c.args.g.view (set (notes_of c.args.g.convergences) c.args.from (views_of c.args.q)) (views_of c.args.q) = c.agree.ensures ∙ ap (λ (n : List (List ℕ)). agree c.args.g.view n (views_of c.args.q)) notes_are in
+    let repeats : c.same.result ≡ same (views_of c.args.q) (views_of c.args.g.raised) = c.same.ensures in
     c.sends.ensures
-    ∙ rw (sent_says c.to_Both.ensures (made_says _ _ c.install.ensures refl), c.least-w.ensures)
-    (rw (notes_are c, ← asked c, not-false c.agree.result c.if-not-agree.false-raw, ← repeats c, c.if-same.false))
+    ∙ rw (sent_says c.to_both.ensures (made_says _ _ c.install.ensures refl), c.least-w.ensures)
+    (rw (notes_are, ← asked, not-false c.agree.result c.if-not-agree.false-raw, ← repeats, c.if-same.false))

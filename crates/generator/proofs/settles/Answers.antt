@@ -18,11 +18,13 @@ returns-then-same c =
 pub returns-then-not-agree : goal.returns-then-not-agree
 unfolding settles generator_of
 returns-then-not-agree c = 
+    let differs : same (views_of c.args.g.own) (views_of c.args.g.converged) ≡ false = sym c.same.ensures ∙ c.if-same.false in
     let f : agree c.args.g.view (notes_of c.args.g.proposals) (views_of c.args.g.own) ≡ false = sym c.agree.ensures ∙ not-true _ c.if-not-agree.true-raw in
-    c.quiet-then-not-agree.ensures ∙ rw ((sym c.same.ensures ∙ c.if-same.false), f)
+    c.quiet-then-not-agree.ensures ∙ rw (differs, f)
 
 pub returns : goal.returns
 unfolding settles generator_of
 returns c = 
+    let differs : same (views_of c.args.g.own) (views_of c.args.g.converged) ≡ false = sym c.same.ensures ∙ c.if-same.false in
     let f : agree c.args.g.view (notes_of c.args.g.proposals) (views_of c.args.g.own) ≡ true = sym c.agree.ensures ∙ not-false _ c.if-not-agree.false-raw in
-    c.sends.ensures ∙ rw (sent_says c.to_members.ensures (made_says _ _ c.converged.ensures refl), (sym c.same.ensures ∙ c.if-same.false), f)
+    c.sends.ensures ∙ rw (sent_says c.to_members.ensures (made_says _ _ c.converged.ensures refl), differs, f)
