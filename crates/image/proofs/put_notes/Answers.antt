@@ -1,8 +1,9 @@
 -- `image::put_notes` meets its contract: the sequences before i are written. Assumes nothing.
-use Prim.Native.Nat.{◌+◌, ◌*◌}
+use Prim.Native.Nat.{◌+◌, ◌*◌, ◌≤◌}
 use native.Mathlib.Omega.{arith}
+use lib.ListN.{length}
 use Rattle.rows.proofs.Laws.{room, no_room, wrote_none, wrote_more, wrote-all}
-use Rattle.layout.specs.Layout.{sequence_width}
+use Rattle.layout.specs.Layout.{sequence_width, notes_width}
 use Rattle.state.specs.Meaning.{notes_of}
 use Rattle.image.specs.Parts.{notes_bytes}
 use Rattle.image.proofs.Parts.{note_at}
@@ -16,13 +17,18 @@ pub loop-i-init : goal.loop-i-init
 loop-i-init c = wrote_none
 
 pub overflow_add-at : goal.overflow_add-at
-overflow_add-at c = let fit = (room c.has_room.ensures c.if-not-has_room.false-raw) in omega arith
+overflow_add-at c = 
+    let space : c.args.at + notes_width ≤ length c.args.s.now = room c.has_room.ensures c.if-not-has_room.false-raw in
+    let fit = space in omega arith
 
 pub loop-i-preserved : goal.loop-i-preserved
 loop-i-preserved c = 
-    wrote_more (λ k. length-sequence _) ((room c.has_room.ensures c.if-not-has_room.false-raw)) _ (c.args.at + c.loop-i.i * sequence_width) c.loop-i.invariant c.loop-i-test.true (omega arith)
+    let space : c.args.at + notes_width ≤ length c.args.s.now = room c.has_room.ensures c.if-not-has_room.false-raw in
+    wrote_more (λ k. length-sequence _) (space) _ (c.args.at + c.loop-i.i * sequence_width) c.loop-i.invariant c.loop-i-test.true (omega arith)
     (rw (note_at c.args.n.of c.loop-i.i) at c.put_sequence.ensures)
 
 pub returns : goal.returns
 unfolding notes_bytes notes_of
-returns c = wrote-all (λ k. length-sequence _) ((room c.has_room.ensures c.if-not-has_room.false-raw)) c.loop-i.invariant c.loop-i-test.false
+returns c = 
+    let space : c.args.at + notes_width ≤ length c.args.s.now = room c.has_room.ensures c.if-not-has_room.false-raw in
+    wrote-all (λ k. length-sequence _) (space) c.loop-i.invariant c.loop-i-test.false

@@ -1,0 +1,15 @@
+-- `relay::transfers::keeps` meets its contract. Assumes nothing.
+use native.Mathlib.Omega.{arith}
+use Rattle.views.specs.Row.{views_of}
+use Rattle.rules.specs.Relays.{keeps}
+use Rattle.state.specs.Meaning.{transfer_of}
+use Rattle.rules.proofs.Lists.{none_test, some_test}
+use Rattle.relay.proofs.transfers.keeps.Goals as goal
+
+pub returns-then-count-gt0 : goal.returns-then-count-gt0
+unfolding transfer_of keeps
+returns-then-count-gt0 c = rw (some_test (views_of c.args.t.sequence) (omega (arith, c.count.ensures.0, c.if-count-gt0.true)))
+
+pub returns : goal.returns
+unfolding transfer_of keeps
+returns c = rw (none_test (views_of c.args.t.sequence) (omega (arith, c.count.ensures.0, c.if-count-gt0.false)))
