@@ -195,14 +195,14 @@ fn notes_pair(d: Desk, from: u8, p: Pair) -> Desk
 }
 
 // "who replied, best reply, whether all stamps agreed": the one thin function that notes a reply in a desk record lent by &mut. Its
-// work is done by value, above; what is left, from the lent record and back into it, is proved by hand.
+// work is done by value, above.
 pub fn note_reply(desk: &mut Desk, from: u8, p: Pair)
     ensures { desk.new ≡ reply_noted desk.old from p }
 {
     *desk = notes_pair(*desk, from, p);
 }
 
-// Lends a record that came by value. Its own parameters are plain, so the proofs by hand end here.
+// Lends a record that came by value.
 fn with_reply(d: Desk, from: u8, p: Pair) -> Desk
     ensures { result ≡ reply_noted d from p }
 {

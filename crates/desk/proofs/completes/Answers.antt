@@ -29,23 +29,23 @@ module _ (n : ℕ) (d : Desk) {x : Planned Desk} where
 
 pub returns-then-d : goal.returns-then-d
 unfolding event_of
-returns-then-d c = in-read-1 c.args.n c.args.d true c.enum_told-in-Read1-1.given.1 c.if-d.true c.ends.ensures
+returns-then-d c = in-read-1 c.args.n c.args.d true c.in-Read1.is c.if-d.true c.ends.ensures
 
 pub returns-in-Idle : goal.returns-in-Idle
 unfolding completes
-returns-in-Idle c = in_phase _ _ _ c.enum_told-1.given.1 c.does_nothing.ensures
+returns-in-Idle c = in_phase _ _ _ c.in-Idle.is c.does_nothing.ensures
 
 pub returns-else-d : goal.returns-else-d
-returns-else-d c = in-read-1 c.args.n c.args.d false c.enum_told-in-Read1-1.given.1 c.if-d.false c.begins.ensures
+returns-else-d c = in-read-1 c.args.n c.args.d false c.in-Read1.is c.if-d.false c.begins.ensures
 
 pub returns-in-Read2 : goal.returns-in-Read2
 unfolding completes event_of
-returns-in-Read2 c = in_phase _ _ _ c.enum_told-in-Read2-1.given.1 c.ends-in-Read2.ensures
+returns-in-Read2 c = in_phase _ _ _ c.in-Read2.is c.ends-in-Read2.ensures
 
 pub returns-in-Write1 : goal.returns-in-Write1
 unfolding completes
-returns-in-Write1 c = in_phase _ _ _ c.enum_told-in-Write1-1.given.1 c.takes_stamp.ensures
+returns-in-Write1 c = in_phase _ _ _ c.in-Write1.is c.takes_stamp.ensures
 
 pub returns-in-Write2 : goal.returns-in-Write2
 unfolding completes event_of
-returns-in-Write2 c = in_phase _ _ _ c.enum_told-in-Write2-1.given.1 c.ends-in-Write2.ensures
+returns-in-Write2 c = in_phase _ _ _ c.in-Write2.is c.ends-in-Write2.ensures
