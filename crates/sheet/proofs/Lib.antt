@@ -4,4 +4,3 @@ pub mod Walk
 pub mod Writing
 pub mod Slices
 pub mod Back
-pub mod Held

@@ -1,5 +1,5 @@
 // "It is read from the front one step at a time": a reader holds the sheet's bytes and a position. `step_at` and `after` do the work on a plain
-// slice and a number. The functions over `Reader` are thin: a struct that holds a reference is proved by hand.
+// slice and a number. The functions over `Reader` are thin.
 ghost use Rattle.std.specs.Prelude.{◌≡◌};
 ghost use Rattle.sheet.specs.Reading.{front_of, step_at, after_of, taken_at};
 

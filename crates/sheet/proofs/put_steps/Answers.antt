@@ -10,21 +10,24 @@ loop-i-init c = left-all
 
 pub bounds-kinds-i : goal.bounds-kinds-i
 bounds-kinds-i c = 
-    ((let t : (c.loop-i.i < length c.args.kinds.now) × (c.loop-i.i < length c.args.ids.now) × (c.loop-i.i < length c.args.values.now) = let n = listed-length c.args.kinds.now c.args.ids.now c.args.values.now in
-    (omega (arith, c.requires.0), omega (arith, c.requires.0), omega (arith, c.requires.0)) in t)).0
+    let inside : (c.loop-i.i < length c.args.kinds.now) × (c.loop-i.i < length c.args.ids.now) × (c.loop-i.i < length c.args.values.now) = let n = listed-length c.args.kinds.now c.args.ids.now c.args.values.now in
+    (omega (arith, c.requires.n_value), omega (arith, c.requires.n_value), omega (arith, c.requires.n_value)) in
+    (inside).0
 
 pub bounds-ids-i : goal.bounds-ids-i
 bounds-ids-i c = 
-    ((let t : (c.loop-i.i < length c.args.kinds.now) × (c.loop-i.i < length c.args.ids.now) × (c.loop-i.i < length c.args.values.now) = let n = listed-length c.args.kinds.now c.args.ids.now c.args.values.now in
-    (omega (arith, c.requires.0), omega (arith, c.requires.0), omega (arith, c.requires.0)) in t)).1
+    let inside : (c.loop-i.i < length c.args.kinds.now) × (c.loop-i.i < length c.args.ids.now) × (c.loop-i.i < length c.args.values.now) = let n = listed-length c.args.kinds.now c.args.ids.now c.args.values.now in
+    (omega (arith, c.requires.n_value), omega (arith, c.requires.n_value), omega (arith, c.requires.n_value)) in
+    (inside).1
 
 pub bounds-values-i : goal.bounds-values-i
 bounds-values-i c = 
-    ((let t : (c.loop-i.i < length c.args.kinds.now) × (c.loop-i.i < length c.args.ids.now) × (c.loop-i.i < length c.args.values.now) = let n = listed-length c.args.kinds.now c.args.ids.now c.args.values.now in
-    (omega (arith, c.requires.0), omega (arith, c.requires.0), omega (arith, c.requires.0)) in t)).2
+    let inside : (c.loop-i.i < length c.args.kinds.now) × (c.loop-i.i < length c.args.ids.now) × (c.loop-i.i < length c.args.values.now) = let n = listed-length c.args.kinds.now c.args.ids.now c.args.values.now in
+    (omega (arith, c.requires.n_value), omega (arith, c.requires.n_value), omega (arith, c.requires.n_value)) in
+    (inside).2
 
 pub loop-i-preserved : goal.loop-i-preserved
-loop-i-preserved c = left_more _ _ _ _ c.loop-i.invariant (omega (arith, c.requires.0)) (omega (arith, c.requires.0)) c.put_step.ensures
+loop-i-preserved c = left_more _ _ _ _ c.loop-i.invariant (omega (arith, c.requires.n_value)) (omega (arith, c.requires.n_value)) c.put_step.ensures
 
 pub returns : goal.returns
-returns c = left-none c.loop-i.invariant (omega (arith, c.requires.0))
+returns c = left-none c.loop-i.invariant (omega (arith, c.requires.n_value))
