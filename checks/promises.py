@@ -4,6 +4,7 @@ import functools
 import glob
 import os
 import re
+import subprocess
 
 
 # What stands before the name that a line of antt declares.
@@ -30,20 +31,15 @@ def code(path):
 
 # ---- imports
 
-# The library's own name of a module: inside the crate X it is Rattle·X·specs.specs.M, outside Rattle·X.specs.M.
-def outside(path):
-    return re.sub(r'^(Rattle·\w+)·(specs|proofs)\.\2\b', r'\1.\2', path.removeprefix('package.'))
-
-
 # The import lines of a file: whether names are passed on (`pub use`), the module, and what is taken from it or the name that it gets.
 def imports(path):
-    line = r'^ghost use (.+?);' if path.endswith('.rt') else r'^(?:unfoldable )?((?:pub )?use .+)$'
+    line = r'^ghost use ([^;]+);' if path.endswith('.rt') else r'^(?:unfoldable )?((?:pub )?use .+)$'
     for found in re.findall(line, code(path), re.M):
         passed, text = 'pub use' in found, ' '.join(re.sub(r'^(pub )?use ', '', found).split())
         form = re.fullmatch(r'([^\s{}]+?)(?:\.\{(.*)\}| as (\S+))?', text)
         if not form or form[1].endswith('*'):
             raise Unread(f'{path}: this import is not understood: {found}')
-        yield passed, outside(form[1]), form[2], form[3]
+        yield passed, form[1], form[2], form[3]
 
 
 # Of a file: each name that its imports bring with its full path, and each name of a module with the module's path.
@@ -55,8 +51,8 @@ def imported(path, passed_on=False):
             continue
         if group is None:
             add(path, modules, alias or module.split('.')[-1], module)
-        for part in group.split(',') if group is not None else []:
-            name, _, other = part.strip().partition(' as ')
+        for part in filter(None, (part.strip() for part in (group or '').split(','))):
+            name, _, other = part.partition(' as ')
             add(path, names, other or name, f'{module}.{name}')
     return names, modules
 
@@ -74,25 +70,56 @@ def declared(path):
 
 # The module that defines a name, through each `pub use` that passes it on.
 def origin(path):
-    path = outside(path)
-    found = re.fullmatch(r'Rattle·(\w+)\.(specs|proofs)\.(\w+)\.(\S+)', path)
-    if not found or found[3] == 'declared':
+    found = re.fullmatch(r'Rattle\.(\w+)\.(specs|proofs)\.(\S+)', path)
+    if not found or found[3].startswith('declared.'):
         return path
-    file = f'crates/{found[1]}/{found[2]}/{found[3]}.antt'
+    if not os.path.isdir(f'crates/{found[1]}'):
+        return origin_in_kit(path, *found.groups())
+    module, _, name = found[3].partition('.')
+    file = f'crates/{found[1]}/{found[2]}/{module}.antt'
     if not os.path.exists(file):
         raise Unread(f'{path}: there is no {file}')
     passed = imported(file, True)[0]
-    if found[4] in passed:
-        return origin(passed[found[4]])
-    if found[4] not in declared(file):
+    if name in passed:
+        return origin(passed[name])
+    if name not in declared(file):
         raise Unread(f'{path}: {file} does not declare it')
+    return path
+
+
+# The folder of the kit that has the sources of its libraries: beside the page that `rt doc` names.
+@functools.lru_cache(None)
+def kit():
+    page = subprocess.run(['rt', 'doc'], capture_output=True, text=True, check=True).stdout.strip()
+    return os.path.join(os.path.dirname(page), 'rattle')
+
+
+# The same of a name of the kit's libraries, where modules stand in one another and are passed on as names are.
+def origin_in_kit(path, crate, kind, rest):
+    folder, parts = os.path.join(kit(), crate, kind), rest.split('.')
+    file = os.path.join(folder, 'Lib.antt')
+    if not os.path.exists(file):
+        raise Unread(f'{path}: no crate here and no library of the kit')
+    while parts:
+        names, modules = imported(file, True)
+        below = os.path.join(folder, parts[0])
+        if os.path.exists(below + '.antt'):
+            file, folder, parts = below + '.antt', below, parts[1:]
+        elif parts[0] in modules or parts[0] in names:
+            return origin('.'.join([modules.get(parts[0]) or names[parts[0]], *parts[1:]]))
+        else:
+            break
     return path
 
 
 # ---- names in a statement
 
-EQUAL = 'mathlib.Core.Path._≡_'
+EQUAL = 'mathlib.Core.Path.◌≡◌'
 SYNTAX = set('( ) { } ; , : = . → λ × ¬ ⊥ record let in Type _'.split())
+# where an operator has its operands
+HOLE = '◌'
+# what a promise calls the result
+RESULT = 'result'
 
 
 def tokens(text):
@@ -108,38 +135,43 @@ def tokens(text):
 def known(path):
     names, modules = imported(path)
     names = dict(names)
-    if path.endswith('.rt'):
-        names.setdefault('now', 'denote.Ref.now')
-    else:
+    if path.endswith('.antt'):
         crate, kind, file = re.fullmatch(r'crates/(\w+)/(\w+)/(\w+)\.antt', path).groups()
         for name in declared(path) & set(re.findall(MARKS + r'([^\s(){};,:]+) ', code(path), re.M)):
-            add(path, names, name, f'Rattle·{crate}.{kind}.{file}.{name}')
-    for name in [n for n in names if '_' in n]:
-        for part in [p for p in name.split('_') if p]:
+            add(path, names, name, f'Rattle.{crate}.{kind}.{file}.{name}')
+    for name in [n for n in names if HOLE in n]:
+        for part in [p for p in name.split(HOLE) if p]:
             names.setdefault(part, names[name])
     return names, modules
 
 
-# One name as it is known everywhere; `bound` are the variables.
+# One name as it is known everywhere, its projections each after a space; `bound` are the variables.
 def resolved(path, name, bound):
     names, modules = known(path)
     head, dot, rest = name.partition('.')
+    fields = f' .{rest}'.replace('.', ' .').replace('  ', ' ') if dot else ''
     if name in bound:
         return bound[name]
     if name in names:
         return origin(names[name])
-    if name in SYNTAX or re.fullmatch(r'\d+|\.\S+', name):
+    if name in SYNTAX or re.fullmatch(r'\d+', name):
         return name
+    if not head:
+        return fields.strip()
+    if dot and head in bound:
+        return bound[head] + fields
     if dot and head in modules:
         return origin(f'{modules[head]}.{rest}')
-    if dot and re.match(r'(Rattle·|mathlib|lib|Prim|denote|package)', head):
+    if dot and re.match(r'(Rattle|mathlib|lib|Prim|denote)\.', name):
         return origin(name)
+    if dot and head in names:
+        return origin(names[head]) + fields
     raise Unread(f'{path}: {name} is neither imported nor declared nor a variable')
 
 
 # The tokens of a statement with each name resolved.
 def resolve(path, words, bound):
-    return unbracketed(meanings(path, words, bound))
+    return unbracketed(' '.join(meanings(path, words, bound)).split())
 
 
 # What each token of a statement means. A variable that a λ or let binds is known to the end of its parentheses.
@@ -233,21 +265,32 @@ def types():
     return found
 
 
+# What the `use` lines of a source bring: each name with its path.
+@functools.lru_cache(None)
+def used(path):
+    found = {}
+    for start, group, other in re.findall(r'^\s*(?:pub )?use ([\w:]+?)(?:::\{([^{}]*)\}| as (\w+))?;', code(path), re.M):
+        for part in filter(None, (part.strip() for part in group.split(','))) if group else ['']:
+            name, _, new = part.partition(' as ')
+            full = f'{start}::{name}' if name else start
+            found[new or other or full.split('::')[-1]] = full
+    return found
+
+
 # The path of a type's name in a source, through its `use` lines.
 def type_path(path, name):
     crate, module = place(path)
-    used = dict((u.split('::')[-1], u) for u in re.findall(r'^\s*(?:pub )?use ([\w:]+);', code(path), re.M))
-    full = used.get(name, name if '::' in name else '::'.join(filter(None, (crate, module, name))))
+    full = used(path).get(name, name if '::' in name else '::'.join(filter(None, (crate, module, name))))
     full = re.sub(r'^(super|crate)::', f'{crate}::', re.sub(r'^self::', '::'.join(filter(None, (crate, module, ''))), full))
     if full not in types():
         raise Unread(f'{path}: the type {name} ({full}) is not read')
     return full
 
 
-# The declared record or choice of a type: stamps::Pair is Rattle·stamps.specs.declared.Pair.Pair.
+# The declared record or choice of a type: stamps::Pair is Rattle.stamps.specs.declared.Pair.Pair.
 def declared_path(full):
     crate, *modules, name = full.split('::')
-    return '.'.join([f'Rattle·{crate}.specs.declared', *modules, name, name])
+    return '.'.join([f'Rattle.{crate}.specs.declared', *modules, name, name])
 
 
 # Of a type as a source spells it: how it is lent, and the type without lifetimes.
@@ -273,13 +316,13 @@ def test(path, text, of):
     if kind == 'bool':
         return None
     if kind in NUMBERS:
-        return f'in-{kind} {of}'
+        return f'in_{kind} {of}'
     if kind in ('[u8]', '[u32]'):
-        return f'in-{"bytes" if kind == "[u8]" else "u32s"} ' + (f'(now {of})' if how == 'held' else of)
+        return f'in_{"bytes" if kind == "[u8]" else "u32s"} ' + (f'{of}.now' if how == 'held' else of)
     if array:
         return f'array {array_length(path, array[2])} {test(path, array[1], "").strip()} {of}'
     full = type_path(path, kind)
-    return f'in-{kind.split("::")[-1]} {of}' if tests_of(full) != [] else None
+    return f'in_{kind.split("::")[-1]} {of}' if tests_of(full) != [] else None
 
 
 # The fields of a struct with their types; of a choice each variant with its fields.
@@ -298,9 +341,9 @@ def fields(named, placed):
 # The lines that define a type's test, as they stand in Typed.antt; none where every value passes.
 def tests_of(full):
     path, listed = members(full)
-    name = 'in-' + full.split('::')[-1]
+    name = 'in_' + full.split('::')[-1]
     if types()[full][1] == 'struct':
-        found = [test(path, t, f'(x .{n})') for n, t in listed]
+        found = [test(path, t, f'x.{n}') for n, t in listed]
         return [f'{name} x = ' + ' && '.join(filter(None, found))] if any(found) else []
     lines = []
     for variant, parts in listed:
@@ -316,7 +359,7 @@ class Function:
     def __init__(self, path, name, parameters, result, promises):
         crate, self.module = place(path)
         self.path, self.parameters, self.result, self.promises = path, parameters, result, promises
-        self.key = f'{crate}-{name.replace("_", "-")}'
+        self.key = f'{crate}_{name}'
 
     # The type of a parameter or of the result, as the certificate's binders have it.
     def antt(self, text):
@@ -327,7 +370,7 @@ class Function:
             return ['mathlib.Core.Bool.Bool']
         if kind in ('[u8]', '[u32]'):
             listed = ['mathlib.Core.List.List', 'Prim.Native.Nat.ℕ']
-            return ['denote.Ref.RefT', '(', *listed, ')'] if how == 'held' else listed
+            return ['denote.Ref.Bor', '(', *listed, ')'] if how == 'held' else listed
         return [declared_path(type_path(self.path, kind))]
 
     # Each parameter as the certificate knows it: its place.
@@ -341,17 +384,23 @@ class Function:
 
     # The promise of this label, resolved: #0 is the first parameter as it was, #0' what it holds afterwards, #r the result.
     def promised(self, label):
-        variable, text = self.promises[label]
-        bound = {name: f'@{at}' for at, (name, kind) in enumerate(self.parameters)}
-        bound |= {} if variable == '_' else {variable: '#r'}
-        text = ' '.join(resolve(self.path, tokens(text), bound))
+        bound = {name: f'@{at}' for at, (name, kind) in enumerate(self.parameters)} | {RESULT: '#r'}
+        text = ' '.join(resolve(self.path, tokens(self.promises[label]), bound))
         for at, (name, kind) in enumerate(self.parameters):
-            lent = bare(kind)[0] in ('lent', 'mut')
-            text = re.sub(rf"denote\.Ref\.now \( @{at} \.exit \)", f"#{at}'", text)
-            text = re.sub(rf'denote\.Ref\.now \( @{at} \.entry \)' if lent else rf'@{at}( \.entry)?(?!\S)', f'#{at}', text)
+            for spelt, what in spellings(at, kind):
+                text = re.sub(rf'(?<!\S){spelt}(?!\S)', what, text)
         if '@' in text:
-            raise Unread(f'{self.key}: a lent parameter is not spelt `now (x .entry)` or `now (x .exit)`: {text}')
+            raise Unread(f'{self.key}: a lent parameter is not spelt `x.now`, `x.old` or `x.new`: {text}')
         return unbracketed(text.split())
+
+
+# How a promise speaks of a parameter: of a `&` as it is now, of a `&mut` as it was and as it is afterwards, of a value, or of what is held for longer, as it
+# was passed (`x.entry` where it holds a reference).
+def spellings(at, kind):
+    how = bare(kind)[0]
+    if how == 'mut':
+        return [(rf'@{at} \.(?:old|entry \.now)', f'#{at}'), (rf'@{at} \.(?:new|exit \.now)', f"#{at}'")]
+    return [(rf'@{at}(?: \.entry)? \.now' if how == 'lent' else rf'@{at}(?: \.entry)?(?! \.exit)', f'#{at}')]
 
 
 def inside(text, at, close):
@@ -400,12 +449,11 @@ def function(path, name, start):
     result, found = clauses(path, name, text, at)
     promises = {}
     for word, label, body in found:
-        form = re.fullmatch(r'λ (\w+)\. ⌜ ([^⌜⌝]*) ⌝', body)
-        if word != 'ensures' or not form:
+        if word != 'ensures' or not body or re.search('[⌜⌝]', body):
             raise Unread(f'{path}: {name}: this clause is no promise: {word} {label} {{ {body} }}')
         if label in promises:
             raise Unread(f'{path}: {name}: two promises of one name')
-        promises[label] = form.groups()
+        promises[label] = body
     if not promises:
         raise Unread(f'{path}: {name} promises nothing')
     return Function(path, name, parameters(path, text, start, listed), result, promises)

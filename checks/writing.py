@@ -6,9 +6,12 @@ import re
 import promises as p
 
 # the proofs that repeat the promise, by the form of the statement
-PROOFS = {'Determined': 'by-equation', 'DeterminedBy': 'by-meaning', 'DeterminedWith': 'by-lent'}
-# what a lent buffer holds afterwards is called: the first of these that the function does not use
+PROOFS = {'Determined': 'by_equation', 'DeterminedBy': 'by_meaning', 'DeterminedWith': 'by_lent'}
+# what the result, and what a lent buffer holds afterwards, are called: the first of these that the function does not use
+RESULT = ('r', 's', 'q')
 AFTER = ('b', 'after', 'c')
+# the module that passes on the library's names
+PRELUDE = 'Rattle.std.specs.Prelude'
 WIDTH = 160
 
 
@@ -33,7 +36,7 @@ def means(path, name, bound):
 def group_of(path, module):
     """The line that imports names from a module, as it stands in the file; none where there is no such line."""
     for line in re.findall(r'^use \S+\.\{.*\}$', p.read(path), re.M):
-        if p.outside(line.split()[1].split('.{')[0]) == module:
+        if line.split()[1].split('.{')[0] == module:
             return line
 
 
@@ -49,13 +52,22 @@ def without(path, name):
             put(path, text.replace(line, ''))
 
 
+def imported_from(full):
+    """The module that a name is imported from, and its name there: the library's Prelude where that passes it on."""
+    module, name = full.rsplit('.', 1)
+    try:
+        return (PRELUDE, name) if p.origin(f'{PRELUDE}.{name}') == full else (module, name)
+    except p.Unread:
+        return module, name
+
+
 def brought(path, full, bound):
     """Imports what has this full name, and says how it is spelt now: alone, or after its module's name where its own is taken."""
-    module, name = full.rsplit('.', 1)
+    module, name = imported_from(full)
     if means(path, name, {}) is None:
         without(path, name)
     taken = {*p.known(path)[0], *bound}
-    if taken & {name, *filter(None, name.split('_'))} and '_' not in name:
+    if taken & {name, *filter(None, name.split(p.HOLE))} and p.HOLE not in name:
         other = module.split('.')[-1].lower()
         line, spelt = f'use {module} as {other}', f'{other}.{name}'
         if other in {*taken, *p.known(path)[1]}:
@@ -73,15 +85,15 @@ def brought(path, full, bound):
 
 def spelt(path, word, full, bound):
     """How a file spells what has this full name: as the source does, after a module's name, or imported."""
-    own = word.split('.')[-1]
+    own = full.split('.')[-1] if word.startswith('Rattle.') else word.split('.')[-1]
     ways = [own] + [f'{module}.{own}' for module in sorted(p.known(path)[1])]
-    if '·' not in word:
+    if not word.startswith('Rattle.'):
         ways.insert(0, word)
     found = next((way for way in ways if means(path, way, bound) == full), None)
     if found:
         return found
     new = brought(path, full, bound)
-    return word if '_' in new else new
+    return word if p.HOLE in new else new
 
 
 # ---- a promise as the certificate has it
@@ -95,8 +107,8 @@ class Word:
 
 def words_of(f, label):
     """The words of a promise, as the source has them."""
-    variable, text = f.promises[label]
-    bound = {name: f'@{at}' for at, (name, kind) in enumerate(f.parameters)} | ({} if variable == '_' else {variable: '#r'})
+    text = f.promises[label]
+    bound = {name: f'@{at}' for at, (name, kind) in enumerate(f.parameters)} | {p.RESULT: '#r'}
     plain = p.tokens(text)
     found, at = [], 0
     for word, meaning in zip(plain, p.meanings(f.path, plain, bound)):
@@ -106,17 +118,12 @@ def words_of(f, label):
     return found
 
 
-def replaced(words, forms, text, meaning):
-    """Each run of words of this form becomes one word."""
-    out, at = [], 0
-    while at < len(words):
-        if [word.means for word in words[at:at + len(forms)]] == forms:
-            out.append(Word(words[at].space, text, meaning))
-            at += len(forms)
-        else:
-            out.append(words[at])
-            at += 1
-    return out
+def renamed(word, spelt, text, meaning):
+    """A word that begins with this form, and goes on with projections or ends there, begins with this text."""
+    found = re.match(rf'{spelt}(?!\S)', word.means)
+    if found:
+        fields = word.means[found.end():].replace(' ', '')
+        word.text, word.means = text + fields, meaning + word.means[found.end():]
 
 
 def unbracketed(words):
@@ -131,19 +138,20 @@ def unbracketed(words):
     return words
 
 
-def certified(path, f, label, after):
+def certified(path, f, label, result, after):
     """The words of a promise as the certificate has them: a lent buffer's name is what it held before, `after` what it holds afterwards."""
     words = words_of(f, label)
-    for at, (name, kind) in enumerate(f.parameters):
-        if p.bare(kind)[0] in ('lent', 'mut'):
-            words = replaced(words, ['denote.Ref.now', '(', f'@{at}', '.entry', ')'], name, f'@{at}')
-            words = replaced(words, ['denote.Ref.now', '(', f'@{at}', '.exit', ')'], after, f"@{at}'")
-        else:
-            words = replaced(words, [f'@{at}', '.entry'], name, f'@{at}')
-    bound = {word.text: word.means for word in words if word.means[0] in '@#$'}
+    for word in words:
+        renamed(word, '#r', result, '#r')
+        for at, (name, kind) in enumerate(f.parameters):
+            for spelling, meaning in p.spellings(at, kind):
+                renamed(word, spelling, after if meaning.endswith("'") else name, meaning.replace('#', '@'))
+    bound = {word.text.split('.')[0]: word.means for word in words if word.means[0] in '@#$'}
     for word in words:
         if word.means[0] not in '@#$.' and word.text not in p.SYNTAX and not word.text.isdigit():
-            word.text = spelt(path, word.text, word.means, bound)
+            full, *fields = word.means.split(' ')
+            own = word.text[:len(word.text) - len(''.join(fields))]
+            word.text = spelt(path, own, full, bound) + ''.join(fields)
     return unbracketed(words)
 
 
@@ -170,7 +178,7 @@ def binders(path, f, bound):
 
 def variable(path, f, words, hole, name, bound):
     """A variable of the λ, with its type where the promise speaks of its fields: nothing else would tell the type."""
-    fields = any(word.means == hole and after.text.startswith('.') and len(after.text) > 1 for word, after in zip(words, words[1:]))
+    fields = any(word.means.startswith(hole + ' .') for word in words)
     of = f.result if hole == '#r' else f.parameters[int(hole[1:-1])][1]
     return f'({name} : {type_of(path, f, of, bound)})' if fields else name
 
@@ -180,10 +188,9 @@ class Line:
 
     def __init__(self, path, name, f, label, meaning):
         parameters = [parameter for parameter, kind in f.parameters]
-        result = f.promises[label][0]
-        after = next(word for word in AFTER if word not in (*parameters, result))
+        result, after = (next(word for word in names if word not in parameters) for names in (RESULT, AFTER))
         bound = {word: word for word in (*parameters, result, after)}
-        words = certified(path, f, label, after)
+        words = certified(path, f, label, result, after)
         holes = p.holes(f.promised(label))
         names = [(hole.replace('#', '@') if hole != '#r' else hole, result if hole == '#r' else after) for hole in holes]
         taken = ' '.join(variable(path, f, words, hole, given, bound) for hole, given in names)
@@ -196,8 +203,8 @@ class Line:
     def repeats(self, left, words, meaning, taken):
         """The proof that is the right side of the equation again, where the left is what that proof expects and the right has no variable of the λ."""
         equal = next((at for at, word in enumerate(words) if word.means == p.EQUAL), None)
-        wanted = {'Determined': taken[0], 'DeterminedBy': f'{meaning} {taken[0]}', 'DeterminedWith': f'lentOf {" ".join(taken)}'}[self.form]
-        if equal is None or joined(words[:equal]) != wanted or {word.text for word in words[equal + 1:]} & {*taken}:
+        wanted = {'Determined': taken[0], 'DeterminedBy': f'{meaning} {taken[0]}', 'DeterminedWith': f'lent_of {" ".join(taken)}'}[self.form]
+        if equal is None or joined(words[:equal]) != wanted or {word.text.split('.')[0] for word in words[equal + 1:]} & {*taken}:
             return None
         right = joined(words[equal + 1:])
         given = f'({right})' if ' ' in right and not is_bracketed(right) else right
@@ -205,8 +212,9 @@ class Line:
 
 
 def is_bracketed(text):
+    """Whether a text is in parentheses, with projections of that or none."""
     words = p.tokens(text)
-    return words[0] == '(' and p.closing(words, 0) == len(words) - 1
+    return words[0] == '(' and all(word.startswith('.') for word in words[p.closing(words, 0) + 1:])
 
 
 def wrapped(left, right):
@@ -236,14 +244,14 @@ def rewritten(path, name, line):
         yield f'{name}: its statement is written; its proof is as it was, for a hand to look at'
 
 
-def added(path, name, line, before):
+def added(path, name, f, line, before):
     """Writes the line of a new promise: after the promise before it, else before the first of its crate, or else at the end."""
     if not line.proof:
         yield f'{name}: not written, since its proof does not only repeat the promise\n  {line.statement}'
         return
-    crate, text, new = name.split('-')[0], p.read(path), f'{line.statement}\n{line.proof}\n'
-    first = re.search(rf'^pub {crate}-', text, re.M)
-    if before and before.split('-')[0] == crate:
+    crate, text, new = p.place(f.path)[0], p.read(path), f'{line.statement}\n{line.proof}\n'
+    first = re.search(rf'^pub {crate}_', text, re.M)
+    if before and before.startswith(crate + '_'):
         put(path, text.replace(block(path, before), f'{block(path, before)}\n{new}'))
     elif first:
         put(path, f'{text[:first.start()]}{new}\n{text[first.start():]}')
@@ -265,7 +273,7 @@ def used(path):
 def mended(path, name, f, label, meanings, last):
     """Writes the line of a promise that is new or has moved, where `last` is the promise before it."""
     line = Line(path, name, f, label, meanings.get(f.key))
-    yield from rewritten(path, name, line) if block(path, name) else added(path, name, line, last)
+    yield from rewritten(path, name, line) if block(path, name) else added(path, name, f, line, last)
 
 
 def mend(path, promised, meanings, stale):
@@ -282,6 +290,6 @@ def mend(path, promised, meanings, stale):
     for name in sorted({*stale} - {*promised}):
         removed(path, name)
     for name in [*p.imported(path)[0], *p.imported(path)[1]]:
-        words = {part for part in name.split('_') if part} if '_' in name else {name}
+        words = {part for part in name.split(p.HOLE) if part} if p.HOLE in name else {name}
         if words & before and not words & used(path):
             without(path, name)

@@ -311,8 +311,9 @@ relay_leave_asked s p = by_meaning plan_of (planned no_relay (relays.leave_asked
 pub relay_timer_rang : (p : Part) → DeterminedBy plan_of (λ r. plan_of r ≡ planned no_relay (timer_answer (part_of p)))
 relay_timer_rang p = by_meaning plan_of (planned no_relay (timer_answer (part_of p)))
 
-pub relay_hears_lem : (s : ℕ) (p : Part) (from : ℕ) (b : Body) → DeterminedBy plan_of (λ r. plan_of r ≡ planned no_relay (hears_answer s (part_of p) from (body_of b)))
-relay_hears_lem s p from b = by_meaning plan_of (planned no_relay (hears_answer s (part_of p) from (body_of b)))
+pub relay_hears : (s : ℕ) (p : Part) (from : ℕ) (b : Body)
+    → DeterminedBy plan_of (λ r. plan_of r ≡ planned no_relay (hears_answer s (part_of p) from (body_of b)))
+relay_hears s p from b = by_meaning plan_of (planned no_relay (hears_answer s (part_of p) from (body_of b)))
 
 -- ---- desk
 
@@ -322,8 +323,9 @@ desk_read_asked d = by_meaning desk_plan_of (planned no_desk (desks.read_asked d
 pub desk_write_asked : (d : Desk) (x : ℕ) → DeterminedBy desk_plan_of (λ r. desk_plan_of r ≡ planned no_desk (desks.write_asked d x))
 desk_write_asked d x = by_meaning desk_plan_of (planned no_desk (desks.write_asked d x))
 
-pub desk-hears : (n : ℕ) (d : Desk) (from : ℕ) (b : Body) → DeterminedBy desk_plan_of (λ r. desk_plan_of r ≡ planned no_desk (desks.desk_hears n d from (body_of b)))
-desk-hears n d from b = by_meaning desk_plan_of (planned no_desk (desks.desk_hears n d from (body_of b)))
+pub desk_hears : (n : ℕ) (d : Desk) (from : ℕ) (b : Body)
+    → DeterminedBy desk_plan_of (λ r. desk_plan_of r ≡ planned no_desk (desks.desk_hears n d from (body_of b)))
+desk_hears n d from b = by_meaning desk_plan_of (planned no_desk (desks.desk_hears n d from (body_of b)))
 
 pub desk_note_reply : (desk : Desk) (from : ℕ) (p : Pair) → Determined (λ b. b ≡ reply_noted desk from p)
 desk_note_reply desk from p = by_equation (reply_noted desk from p)
