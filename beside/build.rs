@@ -25,7 +25,7 @@ fn main() {
     println!("cargo:rustc-cfg=linked");
     if !archive.is_file() {
         eprintln!("{} is missing.", archive.display());
-        eprintln!("Build it at the repository's top: rt staticlib engine");
+        eprintln!("Build it at the repository's top: checks/archive");
         eprintln!("To try this package without the engine: cargo run --package beside --features stub --bin beside");
         std::process::exit(1);
     }
