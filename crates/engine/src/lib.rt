@@ -1,4 +1,4 @@
-// The engine for C and Rust: byte slices and numbers only. A slice passes as a pointer and then a length. c/engine.h has what a caller owes.
+// The engine for C and Rust: byte slices and numbers only. Crate engine_c exports it to C.
 #![tactic(auto)]
 
 ghost use Rattle.std.specs.Prelude.{◌≡◌};
@@ -42,8 +42,7 @@ fn put_length(told: &mut [u8], n: u32)
 }
 
 // BAD WORLD for bytes that are no good world.
-#[unsafe(no_mangle)]
-pub extern "C" fn world_good(w: &[u8]) -> u8
+pub fn world_good(w: &[u8]) -> u8
     ensures { result ≡ good_number w.now }
 {
     if good::is_good(w) {
@@ -52,8 +51,7 @@ pub extern "C" fn world_good(w: &[u8]) -> u8
     rules::BAD_WORLD
 }
 
-#[unsafe(no_mangle)]
-pub extern "C" fn world_start(w: &mut [u8], mask: u8) -> u8
+pub fn world_start(w: &mut [u8], mask: u8) -> u8
     ensures answer { result ≡ (lent_start w.old mask).answer }
     ensures buffer { w.new ≡ (lent_start w.old mask).buffer }
 {
@@ -61,8 +59,7 @@ pub extern "C" fn world_start(w: &mut [u8], mask: u8) -> u8
 }
 
 // An accepted step's columns go into the first nine bytes of `told`; where it is shorter, NO ROOM, so that no event is lost.
-#[unsafe(no_mangle)]
-pub extern "C" fn world_step(w: &mut [u8], kind: u8, id: u8, value: u32, told: &mut [u8]) -> u8
+pub fn world_step(w: &mut [u8], kind: u8, id: u8, value: u32, told: &mut [u8]) -> u8
     ensures answer { result ≡ (told_step w.old kind id value told.old).answer }
     ensures buffer { w.new ≡ (told_step w.old kind id value told.old).buffer }
     ensures columns { told.new ≡ (told_step w.old kind id value told.old).told }
@@ -81,8 +78,7 @@ pub extern "C" fn world_step(w: &mut [u8], kind: u8, id: u8, value: u32, told: &
 }
 
 // BAD SHEET for bytes that are no sheet.
-#[unsafe(no_mangle)]
-pub extern "C" fn sheet_check(sheet: &[u8]) -> u8
+pub fn sheet_check(sheet: &[u8]) -> u8
     ensures { result ≡ sheet_number sheet.now }
 {
     if sheet::check(sheet).bad {
@@ -92,14 +88,7 @@ pub extern "C" fn sheet_check(sheet: &[u8]) -> u8
 }
 
 // A sheet of n steps takes 6 + 8 * n bytes.
-#[unsafe(no_mangle)]
-pub extern "C" fn sheet_write(
-    buf: &mut [u8],
-    mask: u8,
-    kinds: &[u8],
-    ids: &[u8],
-    values: &[u32],
-) -> u8
+pub fn sheet_write(buf: &mut [u8], mask: u8, kinds: &[u8], ids: &[u8], values: &[u32]) -> u8
     ensures answer { result ≡ number (ruled buf.old mask kinds.now ids.now values.now) }
     ensures left { buf.new
         ≡ buffer_of buf.old (ruled buf.old mask kinds.now ids.now values.now) }
@@ -113,13 +102,7 @@ pub extern "C" fn sheet_write(
 }
 
 // Of an accepted sheet, the record's length goes into the first four bytes of `told`; where it is shorter, NO ROOM.
-#[unsafe(no_mangle)]
-pub extern "C" fn sheet_rehearse(
-    sheet: &[u8],
-    world: &mut [u8],
-    out: &mut [u8],
-    told: &mut [u8],
-) -> u8
+pub fn sheet_rehearse(sheet: &[u8], world: &mut [u8], out: &mut [u8], told: &mut [u8]) -> u8
     ensures answer { result ≡ (told_rehearsal sheet.now world.old out.old told.old).answer }
     ensures last { world.new ≡ (told_rehearsal sheet.now world.old out.old told.old).last }
     ensures printed { out.new ≡ (told_rehearsal sheet.now world.old out.old told.old).printed }
