@@ -6,14 +6,12 @@ use Prim.Native.Nat.{ℕ, ◌≤◌}
 use native.Mathlib.Omega.{arith}
 use lib.ListN.{length, take, drop, replicate, length-take, length-replicate, length-append}
 use lib.Seq.{take-append_seam}
-use borrow.Author.Rules.{rules}
 use Rattle.rules.specs.Runs.{rehearsed}
 use Rattle.rules.proofs.Longest.{longest-is}
 use Rattle.rehearsal.specs.declared.Rehearsed.{Rehearsed}
 use Rattle.rehearsal.specs.Playing.{rehearse_answer, record_left}
 use Rattle.rehearsal.proofs.Playing.{whole_record}
-use Rattle.rehearse.proofs.main.Statement.{statement}
-use Rattle.rehearse.proofs.main.Tie as tie
+use Rattle.rehearse.proofs.main.Goals as goal
 
 -- the first bytes of the buffer that is left, as many as are told, are the record
 module _ (b w out : List ℕ) (r : Rehearsed) (l : List ℕ) (answer : r ≡ rehearse_answer b w out) (printed : l ≡ record_left b w out)
@@ -36,39 +34,12 @@ counts n l h = omega (arith, length-take n l)
 zeros : (n : ℕ) → n ≡ length {A = ℕ} (replicate n 0)
 zeros n = sym (length-replicate n 0)
 
-slice-aggregate-rehearse : tie.Need-slice-aggregate-rehearse
-slice-aggregate-rehearse c =
-    let read = c.before.before.before.read-input in
-    counts read.result.length read.new.0 read.ensures
+pub slice_bounds-out-end : goal.slice_bounds-out-end
+slice_bounds-out-end c =
+    let r = c.rehearse-done in
+    fits _ _ _ r.result r.new.out r.ensures.answer r.ensures.printed (sym (zeros 65536)) (sym (zeros 240033))
 
-array-share-prefix-out : tie.Need-array-share-prefix-out
-array-share-prefix-out c =
-    let r = c.before.before.rehearse in
-    fits _ _ _ r.result r.new.1.1.0 r.ensures.0 r.ensures.1.1 (sym (zeros 65536)) (sym (zeros 240033))
-
-slice-aggregate-write-all-2 : tie.Need-slice-aggregate-write-all-2
-slice-aggregate-write-all-2 c =
-    let r = c.before.before.before.rehearse in
-    counts r.result.length r.new.1.1.0 (array-share-prefix-out c.before)
-
-pub main_spec : {M : Type 1} → statement M
-main_spec =
-    tie.close
-    (tie.spec
-    (λ c. zeros 64008)
-    (λ c κs. search rules)
-    (λ c. search rules)
-    (λ c κs. search rules)
-    (λ c. search rules)
-    (λ c. search rules)
-    slice-aggregate-rehearse
-    (λ c. zeros 65536)
-    (λ c. zeros 240033)
-    (λ c κs. search rules)
-    array-share-prefix-out
-    slice-aggregate-write-all-2
-    (λ c κs. search rules)
-    (λ c. search rules)
-    (λ c κs. search rules)
-    (λ c. search rules)
-    (λ c. search rules))
+pub slice_bounds-write_all-end-2 : goal.slice_bounds-write_all-end-2
+slice_bounds-write_all-end-2 c =
+    let r = c.rehearse-done in
+    counts r.result.length r.new.out (fits _ _ _ r.result r.new.out r.ensures.answer r.ensures.printed (sym (zeros 65536)) (sym (zeros 240033)))
