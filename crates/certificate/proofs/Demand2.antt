@@ -14,7 +14,7 @@ use Rattle.rules.specs.State.{free, World, start}
 use Rattle.rules.specs.Sending.{waiting_in}
 use Rattle.rules.specs.WellFormed.{well_formed}
 use Rattle.rules.specs.declared.Step.{Step}
-use Rattle.rules.specs.Steps.{Outcome, refusal, done, after, report, stepped}
+use Rattle.rules.specs.Steps.{Outcome, refusal, done, after, stepped}
 use Rattle.layout.specs.Layout.{world_width}
 use Rattle.layout.specs.Image.{place_row, image, good_bytes}
 use Rattle.layout.specs.Lent.{Lent, left, lent_step}

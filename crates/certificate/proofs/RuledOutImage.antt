@@ -12,7 +12,7 @@ use Rattle.stamps.specs.Stamp.{fresh_pair}
 use Rattle.rows.specs.Bytes.{splice, placed, bytes_of, number_at, be16, u16_at, run, tab, cat, zeros}
 use Rattle.rules.specs.State.{with_known}
 use Rattle.layout.specs.Layout.{notes_width, generator_width, relay_generators}
-use Rattle.layout.specs.Image.{flag_at, sequence_bytes, sequence_at, pair_bytes, pair_at, head_bytes, generator_bytes, transfer_bytes, desk_bytes, desk_at, row_bytes}
+use Rattle.layout.specs.Image.{flag_at, sequence_bytes, pair_bytes, pair_at, head_bytes, generator_bytes, transfer_bytes, desk_bytes, desk_at, row_bytes}
 use Rattle.rules.specs.declared.Desk.{Desk}
 use Rattle.rules.specs.declared.Phase.TheVariants.{Read1}
 use Rattle.state.specs.declared.Notes.{Notes}

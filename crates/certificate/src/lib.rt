@@ -1,3 +1,2 @@
 // What an inspector asks of every public function: proofs only
 #![tactic(auto)]
-

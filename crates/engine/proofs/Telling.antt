@@ -1,7 +1,7 @@
 -- What the exported functions leave in told, and that what refuses leaves every byte. Assumes nothing.
-use mathlib.Core.Path.{◌≡◌, refl, sym, ap, ◌∙◌}
+use mathlib.Core.Path.{◌≡◌, refl, sym, ◌∙◌}
 use mathlib.Core.Bool.{Bool, true, false}
-use mathlib.Core.List.{List, [], ◌∷◌, ◌++◌}
+use mathlib.Core.List.{List, ◌++◌}
 use Prim.Native.Nat.{ℕ, ◌≤◌, ◌<◌}
 use lib.ListN.{length, get_or, drop}
 use borrow.Author.Tests.{lt-ltb, le-ltb, eq-eqb, ne_eqb}

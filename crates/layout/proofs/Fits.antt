@@ -3,17 +3,16 @@ use mathlib.Core.Path.{◌≡◌, refl}
 use mathlib.Core.Logic.{◌≢◌, ⊎_elim}
 use mathlib.Core.Bool.{Bool, true, not, and-eq-true_iff}
 use mathlib.Core.List.{List, [], ◌∷◌}
-use Prim.Native.Nat.{ℕ, zero, suc, ◌+◌, ◌≤◌, ◌<◌}
+use Prim.Native.Nat.{ℕ, zero, suc, ◌≤◌, ◌<◌}
 use native.Mathlib.Nat.{le_of_suc-le-suc}
 use native.Mathlib.Omega.{arith}
 use lib.Dec.{eqb, ltb, leb, lit≤, lit<}
 use lib.ListN.{length, get_or, replicate}
-use lib.Pow.{pow-lt}
 use borrow.Author.Tests.{eqb-true, ltb-true, leb-true, ne_eqb}
 use Rattle.views.proofs.Truth.{either_true, contrary}
 use Rattle.views.proofs.Sets.{within_le, within_fact, inside_fact, inside_lt, members_lt, member_lt, member_not_empty}
 use Rattle.views.proofs.Nested.{Above, above_none, above_more, above_fact, above_fits}
-use Rattle.rules.specs.Sets.{◌&&◌, ◌||◌, joins, leaves, member, members, within, above, none, all, all_hold}
+use Rattle.rules.specs.Sets.{◌&&◌, ◌||◌, member, members, within, above, none, all, all_hold}
 use Rattle.rules.specs.Stamps.{Pair, zero_pair}
 use Rattle.rules.specs.Messages.{Body, request, view, proposal, converged, install, state, get, put, view_reply, pair_reply, ack, Message}
 use Rattle.rules.specs.State.{Generator, Transfer, Relay, Place, free, waiting}
@@ -22,7 +21,7 @@ use Rattle.rules.specs.declared.Phase.{Phase}
 use Rattle.rules.specs.declared.Phase.TheVariants.{Idle, Read1, Read2, Write1, Write2}
 use Rattle.rules.specs.Generators.{fresh}
 use Rattle.rules.specs.Relays.{fresh_transfer}
-use Rattle.rules.specs.WellFormed.{is_view, is_stamp, is_pair, is_zero_pair, implies, all_from, distinct, good_note, good_notes, good_generator, good_move, good_installed, good_transfer, other_view, other_move, good_generators, good_transfers, good_relay, good_best, no_best, good_phase, good_desk, is_desk, between, asked, replied, good_request, good_body, good_place}
+use Rattle.rules.specs.WellFormed.{is_view, is_stamp, is_pair, is_zero_pair, implies, all_from, distinct, good_note, good_notes, good_generator, good_move, good_installed, good_transfer, other_view, other_move, good_generators, good_transfers, good_relay, good_best, no_best, good_phase, good_desk, is_desk, between, asked, replied, good_body, good_place}
 use Rattle.layout.specs.Image.{filled_generator, filled_transfer, Row, row, body_row, place_row}
 use Rattle.rules.proofs.Serving.{update_small}
 use Rattle.rules.proofs.Hold.{hold_facts, from_at, all_parts}

@@ -1,5 +1,5 @@
 -- A state in bytes, and what bytes mean: "One state has one image: unused room is zero." Where a field stands is Layout. Assumes nothing.
-use Rattle.std.specs.Prelude.{Bool, not, List, [], ◌∷◌, ◌++◌, ℕ, ◌+◌, ◌*◌, ◌-◌, eqb, leb, length, get_or, take}
+use Rattle.std.specs.Prelude.{Bool, not, List, [], ◌∷◌, ◌++◌, ℕ, ◌+◌, ◌*◌, eqb, leb, length, get_or, take}
 use Rattle.rows.specs.Bytes.{be16, be32, u16_at, u32_at, run, tab, cat, table, zeros}
 use Rattle.rules.specs.Sets.{if◌then◌else◌, ◌&&◌, same, those, view_count, relay_count, desk_count, place_count, seat_count}
 use Rattle.rules.specs.Stamps.{Pair, zero_pair}

@@ -1,3 +1,2 @@
 // What a rule at a relay sees and changes: definitions and proofs only
 #![tactic(auto)]
-

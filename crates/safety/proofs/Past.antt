@@ -6,7 +6,6 @@ use mathlib.Core.List.Memᴰ
 use mathlib.Core.List.{◌∷◌}
 use Rattle.safety.proofs.Setting.{Setting}
 use Rattle.safety.proofs.Log.{Entry, Log, ◌∋◌, Justified, Sound, sound_cons}
-use Prim.Native.Nat.{ℕ}
 
 pub data Past (t : Log) : Log → Type 0 where
   now : Past t t

@@ -6,7 +6,7 @@ use Rattle.rules.specs.Desks.{is_second}
 use Rattle.desk.proofs.ack_came.Goals as goal
 
 pub returns-then-not-is_second : goal.returns-then-not-is_second
-returns-then-not-is_second c = 
+returns-then-not-is_second c =
     let e : is_second c.args.d.phase ≡ false = sym c.is_second.ensures ∙ not-true _ c.if-not-is_second.true-raw in
     rw e c.does_nothing.ensures
 
@@ -14,6 +14,6 @@ pub notes_ack-requires : goal.notes_ack-requires
 notes_ack-requires c = c.requires
 
 pub returns : goal.returns
-returns c = 
+returns c =
     let e : is_second c.args.d.phase ≡ true = sym c.is_second.ensures ∙ not-false _ c.if-not-is_second.false-raw in
     rw e (rw c.notes_ack.ensures at c.counted.ensures)

@@ -15,6 +15,6 @@ returns-then-d-ge65535 c = rw (le-leb _ _ c.if-d-ge65535.true) (c.refuses.ensure
 
 pub returns : goal.returns
 unfolding begins begun planned desk_plan_of event_of
-returns c = 
+returns c =
     let sent = sent_says c.to_members.ensures c.asks-body.ensures in
     rw (all_means _ c.one_sent.ensures, sent, c.begun-next.ensures, lt-leb _ _ c.if-d-ge65535.false)

@@ -7,6 +7,6 @@ pub returns-then-tries-d : goal.returns-then-tries-d
 returns-then-tries-d c = rw (sym c.is_idle.ensures ∙ c.if-is_idle.false, ne_eqb _ _ c.if-tries-d.true)
 
 pub returns : goal.returns
-returns c = 
+returns c =
     rw (sym c.is_idle.ensures ∙ c.if-is_idle.false, eq-eqb _ _ c.if-tries-d.false)
     c.is_member.ensures

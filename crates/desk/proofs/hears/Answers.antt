@@ -20,25 +20,25 @@ returns-then-not-current c = rw (unheard c.args.b c.if-kind.false c.args.n c.arg
 
 pub returns-then-kind-eq-VIEW_REPLY : goal.returns-then-kind-eq-VIEW_REPLY
 unfolding body_of body_in desk_hears view_came
-returns-then-kind-eq-VIEW_REPLY c = 
+returns-then-kind-eq-VIEW_REPLY c =
     let now : current c.args.d c.args.from c.args.b.tries ≡ true = sym c.current.ensures ∙ not-false _ c.if-not-current.false-raw in
     rw (c.if-kind-eq-VIEW_REPLY.true, now) c.view_came.ensures
 
 pub returns-then-kind-eq-PAIR_REPLY : goal.returns-then-kind-eq-PAIR_REPLY
 unfolding body_of body_in desk_hears pair_came reply_noted
-returns-then-kind-eq-PAIR_REPLY c = 
+returns-then-kind-eq-PAIR_REPLY c =
     let now : current c.args.d c.args.from c.args.b.tries ≡ true = sym c.current.ensures ∙ not-false _ c.if-not-current.false-raw in
     let below : c.args.from < 8 = member_lt c.args.d.view c.args.from (current_member c.args.d c.args.from c.args.b.tries (now)) in
     rw (c.if-kind-eq-PAIR_REPLY.true, now) (rw (lt-ltb _ _ (below)) at c.pair_came.ensures)
 
 pub ack_came-requires : goal.ack_came-requires
-ack_came-requires c = 
+ack_came-requires c =
     let now : current c.args.d c.args.from c.args.b.tries ≡ true = sym c.current.ensures ∙ not-false _ c.if-not-current.false-raw in
     let below : c.args.from < 8 = member_lt c.args.d.view c.args.from (current_member c.args.d c.args.from c.args.b.tries (now)) in
     below
 
 pub returns : goal.returns
 unfolding desk_hears ack_came
-returns c = 
+returns c =
     let now : current c.args.d c.args.from c.args.b.tries ≡ true = sym c.current.ensures ∙ not-false _ c.if-not-current.false-raw in
     rw (says_ack c.args.b c.if-kind.false c.if-kind-eq-VIEW_REPLY.false c.if-kind-eq-PAIR_REPLY.false, now) c.ack_came.ensures

@@ -8,6 +8,6 @@ use Rattle.desk.proofs.notes_ack.Goals as goal
 
 pub returns : goal.returns
 unfolding notes_ack
-returns c = 
+returns c =
     let e : 1 * 2 ^ c.args.from % 256 ≡ 2 ^ c.args.from = omega (arith, shl_exact {a = 1} 1 c.args.from 8 (omega arith) (omega (arith, c.requires))) in
     rw e

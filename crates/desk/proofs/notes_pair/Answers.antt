@@ -20,13 +20,13 @@ notes_ack-next-requires c = omega arith
 
 pub returns-then-order-eq1 : goal.returns-then-order-eq1
 unfolding reply_noted notes_pair notes_ack greatest_of
-returns-then-order-eq1 c = 
+returns-then-order-eq1 c =
     let who : c.notes_ack-next.result ≡ notes_ack c.args.d c.args.from = c.notes_ack-next.ensures in
     let one : of_z w8 c.compare-order.result ≡ 1 = omega (arith, c.if-order-eq1.true) in
     rw (lt-ltb _ _ c.if-from-ge8.false, who, sym (greater_bits _ _ c.compare-order.ensures) ∙ eq-eqb _ _ one, same_bits _ _ c.compare-order.ensures, or_if)
 
 pub returns-else-order-eq1 : goal.returns-else-order-eq1
 unfolding reply_noted notes_pair notes_ack greatest_of
-returns-else-order-eq1 c = 
+returns-else-order-eq1 c =
     let who : c.notes_ack-next.result ≡ notes_ack c.args.d c.args.from = c.notes_ack-next.ensures in
     rw (lt-ltb _ _ c.if-from-ge8.false, who, sym (greater_bits _ _ c.compare-order.ensures) ∙ ne_eqb _ _ c.if-order-eq1.false, same_bits _ _ c.compare-order.ensures, or_if)

@@ -13,7 +13,7 @@ use Rattle.generator.proofs.Notes.{noted_start, noted_small, noted_step}
 use Rattle.generator.proofs.agreeing.Goals as goal
 
 pub loop-s-init : goal.loop-s-init
-loop-s-init c = 
+loop-s-init c =
     let full : length c.args.n.of ≡ 8 = search rules in
     (omega arith, noted_start c.args.n.of _ full)
 
@@ -27,13 +27,13 @@ pub bounds-n-s : goal.bounds-n-s
 bounds-n-s c = omega arith
 
 pub overflow_mul-mask : goal.overflow_mul-mask
-overflow_mul-mask c = 
+overflow_mul-mask c =
     let full : length c.args.n.of ≡ 8 = search rules in
     let small : c.loop-s.mask < 128 = rw c.loop-s.invariant.1 (noted_small c.args.n.of _ full c.loop-s.s (omega arith)) in
     omega (arith, small)
 
 pub overflow_add-mask : goal.overflow_add-mask
-overflow_add-mask c = 
+overflow_add-mask c =
     let full : length c.args.n.of ≡ 8 = search rules in
     let small : c.loop-s.mask < 128 = rw c.loop-s.invariant.1 (noted_small c.args.n.of _ full c.loop-s.s (omega arith)) in
     omega (arith, small, byte_le c.same.result)
@@ -42,12 +42,12 @@ pub loop-s-smaller : goal.loop-s-smaller
 loop-s-smaller c = omega arith
 
 pub loop-s-preserved : goal.loop-s-preserved
-loop-s-preserved c = 
+loop-s-preserved c =
     let full : length c.args.n.of ≡ 8 = search rules in
     (omega arith, rw c.loop-s.invariant.1 (noted_step c.args.n.of _ full _ _ _ (omega arith) (omega arith) c.same.ensures))
 
 pub returns : goal.returns
 unfolding notes_of
-returns c = 
+returns c =
     let e : c.loop-s.s ≡ 0 = omega arith in
     c.loop-s.invariant.1 ∙ ap (λ (k : ℕ). agreeing (drop k (map views_of c.args.n.of)) (views_of c.args.q)) e

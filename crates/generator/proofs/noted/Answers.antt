@@ -9,7 +9,7 @@ use Rattle.generator.proofs.noted.Goals as goal
 
 pub returns-then-from-ge8 : goal.returns-then-from-ge8
 unfolding noted_row
-returns-then-from-ge8 c = 
+returns-then-from-ge8 c =
     let full : length c.args.n.of ≡ 8 = search rules in
     rw (set_out c.args.n.of c.args.from c.args.q (omega arith))
 

@@ -17,13 +17,13 @@ use Rattle.generator.proofs.proposal_heard.Goals as goal
 
 pub returns-then-not-lacks : goal.returns-then-not-lacks
 unfolding heard_in_row hears_in_row turned generator_of
-returns-then-not-lacks c = 
+returns-then-not-lacks c =
     let e : lacks (views_of c.args.q) (views_of c.args.g.own) ≡ false = sym c.lacks.ensures ∙ not-true _ c.if-not-lacks.true-raw in
     c.settles-settled.ensures ∙ rw (c.merged-m.ensures, e)
 
 pub returns : goal.returns
 unfolding heard_in_row hears_in_row turn_of turned generator_of
-returns c = 
+returns c =
     let e : lacks (views_of c.args.q) (views_of c.args.g.own) ≡ true = sym c.lacks.ensures ∙ not-false _ c.if-not-lacks.false-raw in
     let h : Generator = merged_in_row (generator_of c.args.g) c.args.from (views_of c.args.q) in
     let rest : turn_of c.settles-settled.result ≡ turned (settles h) = c.settles-settled.ensures ∙ rw c.merged-m.ensures in

@@ -14,14 +14,14 @@ use Rattle.generator.proofs.proposes.Goals as goal
 
 pub returns-then-count-gt0 : goal.returns-then-count-gt0
 unfolding proposes generator_of
-returns-then-count-gt0 c = 
+returns-then-count-gt0 c =
     let own : List ℕ = views_of c.args.g.own in
     let e : none own ≡ false = some_test own (omega (arith, c.if-count-gt0.true, c.count.ensures.0)) in
     c.quiet.ensures ∙ rw e
 
 pub returns : goal.returns
 unfolding proposes with_own generator_of
-returns c = 
+returns c =
     let own : List ℕ = views_of c.args.g.own in
     let e : none own ≡ true = none_test own (omega (arith, c.if-count-gt0.false, c.count.ensures.0)) in
     c.sends.ensures ∙ rw (sent_says c.to_members.ensures (made_says _ _ c.proposal.ensures refl), e)

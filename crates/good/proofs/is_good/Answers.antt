@@ -17,7 +17,7 @@ good_relays-requires c = c.if-w-ne-WORLD_WIDTH.false
 
 pub returns-then-not-good_relays : goal.returns-then-not-good_relays
 unfolding rows_good
-returns-then-not-good_relays c = 
+returns-then-not-good_relays c =
     let rows : rows_good c.args.w.now ≡ good_bytes c.args.w.now = sym (bytes_good c.args.w.now c.if-w-ne-WORLD_WIDTH.false) in
     both_fail _ (no c.good_relays.ensures c.if-not-good_relays.true-raw) ∙ rows
 
@@ -26,7 +26,7 @@ good_desks-requires c = c.if-w-ne-WORLD_WIDTH.false
 
 pub returns-then-not-good_desks : goal.returns-then-not-good_desks
 unfolding rows_good
-returns-then-not-good_desks c = 
+returns-then-not-good_desks c =
     let relays : all 8 (relay_good c.args.w.now) ≡ true = yes c.good_relays.ensures c.if-not-good_relays.false-raw in
     let rows : rows_good c.args.w.now ≡ good_bytes c.args.w.now = sym (bytes_good c.args.w.now c.if-w-ne-WORLD_WIDTH.false) in
     both_pass (relays) (both_fail _ (no c.good_desks.ensures c.if-not-good_desks.true-raw)) ∙ rows
@@ -36,7 +36,7 @@ good_places-requires c = c.if-w-ne-WORLD_WIDTH.false
 
 pub returns-then-not-good_places : goal.returns-then-not-good_places
 unfolding rows_good
-returns-then-not-good_places c = 
+returns-then-not-good_places c =
     let relays : all 8 (relay_good c.args.w.now) ≡ true = yes c.good_relays.ensures c.if-not-good_relays.false-raw in
     let desks : all 4 (λ n. desk_good c.args.w.now (desk_begin n)) ≡ true = yes c.good_desks.ensures c.if-not-good_desks.false-raw in
     let rows : rows_good c.args.w.now ≡ good_bytes c.args.w.now = sym (bytes_good c.args.w.now c.if-w-ne-WORLD_WIDTH.false) in
@@ -44,7 +44,7 @@ returns-then-not-good_places c =
 
 pub returns : goal.returns
 unfolding rows_good
-returns c = 
+returns c =
     let relays : all 8 (relay_good c.args.w.now) ≡ true = yes c.good_relays.ensures c.if-not-good_relays.false-raw in
     let desks : all 4 (λ n. desk_good c.args.w.now (desk_begin n)) ≡ true = yes c.good_desks.ensures c.if-not-good_desks.false-raw in
     let rows : rows_good c.args.w.now ≡ good_bytes c.args.w.now = sym (bytes_good c.args.w.now c.if-w-ne-WORLD_WIDTH.false) in

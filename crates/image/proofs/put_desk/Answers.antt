@@ -10,7 +10,7 @@ use Rattle.image.proofs.put_desk.Goals as goal
 
 pub returns : goal.returns
 unfolding desk_bytes
-returns c = 
+returns c =
     let number : Fits w8 c.phase_number-number.result = search rules in
     laid _ _ c.put_fields.ensures
     (piece (simp flag-number) (piece (byte-number number ∙ ap byte c.phase_number-number.ensures) (piece refl (piece refl

@@ -14,7 +14,7 @@ use Rattle.image.proofs.put_generator_fields.Goals as goal
 
 pub returns : goal.returns
 unfolding generator_bytes generator_of notes_bytes cat
-returns c = 
+returns c =
     let p1 = put_first _ _ (length-be16 _) c.put_u16.ensures in
     let p2 = put_then _ _ p1 (length-sequence _) (omega (arith, c.requires)) c.put_sequence.ensures in
     let p3 = put_then _ _ p2 (length-sequence _) (omega (arith, c.requires)) c.put_sequence-2.ensures in

@@ -29,12 +29,12 @@ pub loop-i-init : goal.loop-i-init
 loop-i-init c = wrote_none
 
 pub overflow_add-at : goal.overflow_add-at
-overflow_add-at c = 
+overflow_add-at c =
     let space : c.args.at + sequence_width ≤ length c.args.s.now = room c.has_room.ensures c.if-not-has_room.false-raw in
     let fit = space in omega arith
 
 pub loop-i-preserved : goal.loop-i-preserved
-loop-i-preserved c = 
+loop-i-preserved c =
     let space : c.args.at + sequence_width ≤ length c.args.s.now = room c.has_room.ensures c.if-not-has_room.false-raw in
     let fit = space in
     wrote_more (λ k. length-be16 _) (omega arith) _ (c.args.at + 2 * c.loop-i.i)
@@ -42,13 +42,13 @@ loop-i-preserved c =
     (rw c.view_at-v.ensures at c.put_u16.ensures)
 
 pub overflow_add-at-2 : goal.overflow_add-at-2
-overflow_add-at-2 c = 
+overflow_add-at-2 c =
     let space : c.args.at + sequence_width ≤ length c.args.s.now = room c.has_room.ensures c.if-not-has_room.false-raw in
     let fit = space in omega arith
 
 pub returns : goal.returns
 unfolding sequence_bytes
-returns c = 
+returns c =
     let space : c.args.at + sequence_width ≤ length c.args.s.now = room c.has_room.ensures c.if-not-has_room.false-raw in
     let fit = space in
     let views = wrote-all (λ k. length-be16 _) (omega arith) c.loop-i.invariant c.loop-i-test.false in

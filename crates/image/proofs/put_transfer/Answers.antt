@@ -16,18 +16,18 @@ pub returns-then-not-has_room : goal.returns-then-not-has_room
 returns-then-not-has_room c = no_room _ _ _ (length_transfer _) c.has_room.ensures c.if-not-has_room.true-raw
 
 pub overflow_add-at : goal.overflow_add-at
-overflow_add-at c = 
+overflow_add-at c =
     let space : c.args.at + transfer_width ≤ length c.args.s.now = room c.has_room.ensures c.if-not-has_room.false-raw in
     omega (arith, space, c.well_formed)
 
 pub overflow_add-at-2 : goal.overflow_add-at-2
-overflow_add-at-2 c = 
+overflow_add-at-2 c =
     let space : c.args.at + transfer_width ≤ length c.args.s.now = room c.has_room.ensures c.if-not-has_room.false-raw in
     omega (arith, space, c.well_formed)
 
 pub returns : goal.returns
 unfolding transfer_bytes transfer_of
-returns c = 
+returns c =
     let space : c.args.at + transfer_width ≤ length c.args.s.now = room c.has_room.ensures c.if-not-has_room.false-raw in
     laid_around _ _ _ (around _ _ _ _ _ _ _ _ _ _ _ _ refl refl (space) c.put_fields.ensures c.put_sequence.ensures c.put_fields-2.ensures)
     (piece refl (piece refl none))

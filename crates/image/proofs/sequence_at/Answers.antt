@@ -54,6 +54,6 @@ loop-i-preserved c = (more c.loop-i.invariant.0 (omega arith) c.read_u16.ensures
 
 pub returns : goal.returns
 unfolding sequence_row_at
-returns c = 
+returns c =
     ap₂ row (whole _ c.loop-i.invariant.0 (omega arith)) c.byte_at-len.ensures
     ∙ sequence_alike (alike_end c.args.s.now c.args.at _ c.smaller-a.ensures)

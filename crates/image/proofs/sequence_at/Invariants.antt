@@ -1,7 +1,7 @@
 -- `image::sequence_at` meets its contract: the views before i are read, and those from the length on are zero. Assumes nothing.
 use mathlib.Core.Path.{◌≡◌}
 use mathlib.Core.List.{List}
-use Prim.Native.Nat.{ℕ, zero, ◌+◌, ◌*◌, ◌-◌, ◌≤◌}
+use Prim.Native.Nat.{ℕ, ◌+◌, ◌*◌, ◌-◌, ◌≤◌}
 use lib.ListN.{get_or}
 use Rattle.rows.specs.Bytes.{u16_at}
 use Rattle.rows.proofs.Laws.{Filled}

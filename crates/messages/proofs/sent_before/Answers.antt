@@ -24,7 +24,7 @@ loop-i-preserved c = (omega arith, (omega arith, λ s e. shifted_more _ s _ _ _ 
 
 pub returns : goal.returns
 unfolding all_sent
-returns c = 
+returns c =
     let i : c.loop-i.i ≡ most = omega arith in
     let first : Sending = c.args.s in
     let rest : List Sending = c.args.rest.of in

@@ -14,11 +14,11 @@ pub loop-i-init : goal.loop-i-init
 loop-i-init c = printing_none (omega arith) (omega arith)
 
 pub loop-i-preserved : goal.loop-i-preserved
-loop-i-preserved c = 
+loop-i-preserved c =
     let wrote = printing_more _ _ _ c.loop-i.invariant (tail_next _ _ c.loop-i-test.true) (c.put-next.ensures.position, c.put-next.ensures.bytes) in
     printing_more _ _ _ wrote refl (c.put_number-p-in-loop-i.ensures.position, c.put_number-p-in-loop-i.ensures.bytes)
 
 pub returns : goal.returns
-returns c = 
+returns c =
     let tail = printing_more (10 ∷ []) _ [] c.loop-i.invariant (tail_end _ _ c.loop-i-test.false) (c.put-2.ensures.position, c.put-2.ensures.bytes) in
     let whole = printed_then _ _ (printed-first _ (c.put_number-p.ensures.position, c.put_number-p.ensures.bytes)) (omega arith) (printing_all tail refl) in let both = printed_as _ (line_first _ c.if-numbers-eq0.false) whole in record { position = both.0; bytes = both.1 }

@@ -18,43 +18,43 @@ pub shape_of-out-in_default : goal.shape_of-out-in_default
 shape_of-out-in_default c = c.loop-k.invariant.lines.long
 
 pub returns-in_default : goal.returns-in_default
-returns-in_default c = 
+returns-in_default c =
     lining_all c.loop-k.invariant
     (taken_end c.args.sheet.now c.loop-k.from c.read_at-taken.result c.read_at-taken.ensures c.in_default.is)
 
 pub put_row-t-requires : goal.put_row-t-requires
-put_row-t-requires c = 
+put_row-t-requires c =
     let step-read : steps_from c.args.sheet.now c.loop-k.from ≡ c.in-At.k ∷ steps_from c.args.sheet.now c.read_at-taken.result.at = taken_step c.args.sheet.now c.loop-k.from c.read_at-taken.result c.read_at-taken.ensures c.in-At.k c.in-At.is in
     let row_there : c.loop-k.row + trace_row_width ≤ length c.args.rows.now = lining_room c.loop-k.invariant _ _ (step-read) in
     row_there
 
 pub overflow_add-delivered : goal.overflow_add-delivered
-overflow_add-delivered c = 
+overflow_add-delivered c =
     let few_steps : length (steps_from c.args.sheet.now 6) ≤ 8000 = shown_few c.args.sheet.now c.requires.sheet_value in
     omega (arith, (few c.loop-k.invariant).0, few_steps, (little c.put_row-t.ensures).0)
 
 pub overflow_add-dropped : goal.overflow_add-dropped
-overflow_add-dropped c = 
+overflow_add-dropped c =
     let few_steps : length (steps_from c.args.sheet.now 6) ≤ 8000 = shown_few c.args.sheet.now c.requires.sheet_value in
     omega (arith, (few c.loop-k.invariant).1, few_steps, (little c.put_row-t.ensures).1)
 
 pub overflow_add-number : goal.overflow_add-number
-overflow_add-number c = 
+overflow_add-number c =
     let few_steps : length (steps_from c.args.sheet.now 6) ≤ 8000 = shown_few c.args.sheet.now c.requires.sheet_value in
     omega (arith, c.loop-k.invariant.taken, few_steps)
 
 pub overflow_add-row : goal.overflow_add-row
-overflow_add-row c = 
+overflow_add-row c =
     let step-read : steps_from c.args.sheet.now c.loop-k.from ≡ c.in-At.k ∷ steps_from c.args.sheet.now c.read_at-taken.result.at = taken_step c.args.sheet.now c.loop-k.from c.read_at-taken.result c.read_at-taken.ensures c.in-At.k c.in-At.is in
     let row_there : c.loop-k.row + trace_row_width ≤ length c.args.rows.now = lining_room c.loop-k.invariant _ _ (step-read) in
     omega (arith, row_there)
 
 pub loop-k-smaller : goal.loop-k-smaller
-loop-k-smaller c = 
+loop-k-smaller c =
     let step-read : steps_from c.args.sheet.now c.loop-k.from ≡ c.in-At.k ∷ steps_from c.args.sheet.now c.read_at-taken.result.at = taken_step c.args.sheet.now c.loop-k.from c.read_at-taken.result c.read_at-taken.ensures c.in-At.k c.in-At.is in
     omega (arith, ap length (step-read))
 
 pub loop-k-preserved : goal.loop-k-preserved
-loop-k-preserved c = 
+loop-k-preserved c =
     let step-read : steps_from c.args.sheet.now c.loop-k.from ≡ c.in-At.k ∷ steps_from c.args.sheet.now c.read_at-taken.result.at = taken_step c.args.sheet.now c.loop-k.from c.read_at-taken.result c.read_at-taken.ensures c.in-At.k c.in-At.is in
     lining_more c.loop-k.invariant _ _ (step-read) _ c.put_row-t.result c.put_row-t.ensures

@@ -10,17 +10,17 @@ pub returns-then-world-ne-WORLD_WIDTH : goal.returns-then-world-ne-WORLD_WIDTH
 returns-then-world-ne-WORLD_WIDTH c = let both = misfit c.args.sheet.now c.args.world.now c.args.out.now c.if-world-ne-WORLD_WIDTH.true in record { answer = both.0; last = both.1.0; printed = both.1.1 }
 
 pub returns-then-s : goal.returns-then-s
-returns-then-s c = 
+returns-then-s c =
     let both = left-bad c.args.sheet.now c.args.world.now c.args.out.now c.if-world-ne-WORLD_WIDTH.false c.check-s.result c.check-s.ensures c.if-s.true
     c.refuse_sheet.result c.refuse_sheet.new.out (c.refuse_sheet.ensures.answer, c.refuse_sheet.ensures.bytes) in record { answer = both.0; last = both.1.0; printed = both.1.1 }
 
 pub overflow_mul-s : goal.overflow_mul-s
-overflow_mul-s c = 
+overflow_mul-s c =
     let few : c.check-s.result.steps ≤ 8000 = few_found c.args.sheet.now c.check-s.result c.check-s.ensures c.if-s.false in
     omega (arith, few)
 
 pub overflow_add-s : goal.overflow_add-s
-overflow_add-s c = 
+overflow_add-s c =
     let few : c.check-s.result.steps ≤ 8000 = few_found c.args.sheet.now c.check-s.result c.check-s.ensures c.if-s.false in
     omega (arith, few)
 
@@ -31,6 +31,6 @@ pub play-length-requires : goal.play-length-requires
 play-length-requires c = (c.if-world-ne-WORLD_WIDTH.false, found_facts c.args.sheet.now c.check-s.result c.check-s.ensures c.if-s.false)
 
 pub returns : goal.returns
-returns c = 
+returns c =
     let small : c.check-s.result.mask < 256 = search rules in let both = left_good c.args.sheet.now c.args.world.now c.args.out.now c.if-world-ne-WORLD_WIDTH.false c.check-s.result c.check-s.ensures c.if-s.false
     c.if-out-s.false small _ _ c.play-length.result (c.play-length.ensures.position, (c.play-length.ensures.bytes, c.play-length.ensures.world)) in record { answer = both.0; last = both.1.0; printed = both.1.1 }

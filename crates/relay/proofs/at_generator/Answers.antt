@@ -10,7 +10,7 @@ use Rattle.relay.proofs.at_generator.Goals as goal
 
 pub returns : goal.returns
 unfolding plan_of planned part_of relay_of at_generator with_generators event_of turn_of turned
-returns c = 
+returns c =
     λ turn own e.
     rw (put_generator_lem c.args.p.generates (generator_of c.args.p.generator) turn.next c.args.v c.requires own)
     (λ i. record {

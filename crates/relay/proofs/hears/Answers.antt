@@ -45,7 +45,7 @@ returns-then-kind-eq-PUT c = c.put_heard.ensures ∙ rw c.if-kind-eq-PUT.true
 
 pub returns : goal.returns
 unfolding body_of body_in
-returns c = 
+returns c =
     c.quietly-2.ensures ∙ rw (
       ne_eqb c.args.b.kind 1 c.if-kind-eq-REQUEST.false,
       ne_eqb c.args.b.kind 2 c.if-kind-eq-VIEW.false,

@@ -18,7 +18,7 @@ returns-then-not-shows c = c.refuses.ensures bad_step refl ∙ rw (sym c.shows.e
 
 pub returns-then-early : goal.returns-then-early
 unfolding install_heard part_of relay_of
-returns-then-early c = 
+returns-then-early c =
     c.refuses-then-early.ensures not_yet refl ∙ rw (
       sym c.shows.ensures ∙ not-false _ c.if-not-shows.false-raw,
       sym c.early.ensures ∙ c.if-early.true,
@@ -29,7 +29,7 @@ takes_install-later-requires c = rw c.stopped.ensures (stopped_shows (member c.a
 
 pub returns-then-not-is_member : goal.returns-then-not-is_member
 unfolding install_heard
-returns-then-not-is_member c = 
+returns-then-not-is_member c =
     c.takes_install-later.ensures ∙ rw (
       c.stopped.ensures,
       sym c.shows.ensures ∙ not-false _ c.if-not-shows.false-raw,
@@ -39,7 +39,7 @@ returns-then-not-is_member c =
 
 pub returns : goal.returns
 unfolding install_heard part_of relay_of
-returns c = 
+returns c =
     let d = install-done c.args.s (stopped c.args.s (part_of c.args.p) c.args.o c.args.w) c.args.o c.args.w (views_of c.args.q) in
     let e : plan_of c.takes_install-later.result ≡ planned no_relay (does d.next d.sent d.event) = c.takes_install-later.ensures ∙ rw (
       c.stopped.ensures,

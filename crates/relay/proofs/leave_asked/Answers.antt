@@ -19,7 +19,7 @@ overflow_shl-u c = omega (arith, member_lt c.args.p.head.view c.args.s (sym c.is
 
 pub returns : goal.returns
 unfolding leave_asked part_of relay_of
-returns c = 
+returns c =
     c.sends.ensures ∙ rw (
       sent_says c.to_members.ensures (made_says _ _ c.request.ensures none),
       high_shl c.args.s (member_lt c.args.p.head.view c.args.s (sym c.is_member.ensures ∙ not-false _ c.if-not-is_member.false-raw)),

@@ -14,7 +14,7 @@ returns-then-from-ge12 c = c.refuses.ensures bad_step refl ∙ rw (le-ltb c.args
 
 pub returns-then-not-p : goal.returns-then-not-p
 unfolding request_heard part_of relay_of
-returns-then-not-p c = 
+returns-then-not-p c =
     c.quietly.ensures ∙ rw (
       lt-ltb c.args.from 12 c.if-from-ge12.false,
       not-true c.args.p.head.entered c.if-not-p.true,
@@ -22,7 +22,7 @@ returns-then-not-p c =
 
 pub returns-then-v-c : goal.returns-then-v-c
 unfolding request_heard part_of relay_of
-returns-then-v-c c = 
+returns-then-v-c c =
     c.sends.ensures ∙ rw (
       sent_says c.to_one.ensures (made_says _ _ c.view.ensures none),
       lt-ltb c.args.from 16 (omega (arith, c.if-from-ge12.false)),
@@ -33,7 +33,7 @@ returns-then-v-c c =
 
 pub returns-then-within : goal.returns-then-within
 unfolding request_heard part_of relay_of
-returns-then-within c = 
+returns-then-within c =
     c.quietly-then-within.ensures ∙ rw (
       lt-ltb c.args.from 12 c.if-from-ge12.false,
       not-false c.args.p.head.entered c.if-not-p.false,
@@ -43,7 +43,7 @@ returns-then-within c =
 
 pub returns : goal.returns
 unfolding request_heard part_of relay_of with_pending
-returns c = 
+returns c =
     c.quietly-2.ensures ∙ rw (
       lt-ltb c.args.from 12 c.if-from-ge12.false,
       c.join-pending.ensures,

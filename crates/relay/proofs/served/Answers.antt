@@ -12,7 +12,7 @@ returns-then-from-ge12 c = c.refuses.ensures bad_step refl ∙ rw (le-ltb c.args
 
 pub returns-then-not-serves : goal.returns-then-not-serves
 unfolding part_of relay_of
-returns-then-not-serves c = 
+returns-then-not-serves c =
     c.refuses-then-not-serves.ensures not_yet refl ∙ rw (
       lt-ltb c.args.from 12 c.if-from-ge12.false,
       sym c.serves.ensures ∙ not-true _ c.if-not-serves.true-raw,
@@ -20,7 +20,7 @@ returns-then-not-serves c =
 
 pub returns-then-inside : goal.returns-then-inside
 unfolding part_of relay_of
-returns-then-inside c = 
+returns-then-inside c =
     c.sends.ensures ∙ rw (
       sent_says c.to_one.ensures (made_says _ _ c.view_reply.ensures none),
       lt-ltb c.args.from 16 (omega (arith, c.if-from-ge12.false)),
@@ -31,7 +31,7 @@ returns-then-inside c =
 
 pub returns : goal.returns
 unfolding part_of relay_of
-returns c = 
+returns c =
     c.sends-2.ensures ∙ rw (
       sent_says c.to_one-2.ensures refl,
       lt-ltb c.args.from 16 (omega (arith, c.if-from-ge12.false)),

@@ -12,20 +12,20 @@ returns-then-not-inside c = c.quietly.ensures ∙ rw (sym c.inside.ensures ∙ n
 
 pub returns-then-not-is_member : goal.returns-then-not-is_member
 unfolding takes_install part_of relay_of
-returns-then-not-is_member c = 
+returns-then-not-is_member c =
     c.quietly-then-not-is_member.ensures ∙ rw (
       sym c.inside.ensures ∙ not-false _ c.if-not-inside.false-raw,
       sym c.is_member.ensures ∙ not-true _ c.if-not-is_member.true-raw,
     )
 
 pub tested-requires : goal.tested-requires
-tested-requires c = 
+tested-requires c =
     let x = kept_pair c.keeps.result c.transfer_for.result c.args.o c.args.w (part_of c.args.p).transfers c.transfer_for.ensures _ c.keeps.ensures in
     rw (x.0, x.1) c.requires
 
 pub returns : goal.returns
 unfolding takes_install part_of relay_of
-returns c = 
+returns c =
     c.tested.ensures ∙ rw (
       c.keeps.ensures,
       c.transfer_for.ensures,

@@ -12,7 +12,7 @@ enters-requires c = ((and-eq-true_iff _ _).0 c.requires).0
 
 pub returns-then-passes : goal.returns-then-passes
 unfolding tested transfer_of part_of relay_of
-returns-then-passes c = 
+returns-then-passes c =
     let b = (and-eq-true_iff (shows_view c.args.t.new (part_of c.args.p)) (shows_move c.args.t.old c.args.t.new (part_of c.args.p))).0 c.requires in
     c.enters.ensures ∙ rw (
       put_transfer_lem c.args.p.transfers (transfer_of c.args.p.transfer) (transfer_of c.args.t) b.1,
@@ -21,7 +21,7 @@ returns-then-passes c =
 
 pub returns : goal.returns
 unfolding tested transfer_of part_of relay_of
-returns c = 
+returns c =
     let b = (and-eq-true_iff (shows_view c.args.t.new (part_of c.args.p)) (shows_move c.args.t.old c.args.t.new (part_of c.args.p))).0 c.requires in
     c.quietly.ensures ∙ rw (
       c.with_transfer.ensures,

@@ -19,7 +19,7 @@ returns-then-not-shows_view c = c.refuses.ensures bad_step refl ∙ rw (sym c.sh
 
 pub returns-then-not-p : goal.returns-then-not-p
 unfolding timer_answer timer_rang part_of relay_of
-returns-then-not-p c = 
+returns-then-not-p c =
     c.refuses-then-not-p.ensures not_now refl ∙ rw (
       sym c.shows_view.ensures ∙ not-false _ c.if-not-shows_view.false-raw,
       not-true c.args.p.head.active c.if-not-p.true,
@@ -27,7 +27,7 @@ returns-then-not-p c =
 
 pub returns-then-within : goal.returns-then-within
 unfolding timer_answer timer_rang part_of relay_of
-returns-then-within c = 
+returns-then-within c =
     c.refuses-then-within.ensures not_now refl ∙ rw (
       sym c.shows_view.ensures ∙ not-false _ c.if-not-shows_view.false-raw,
       not-false c.args.p.head.active c.if-not-p.false,
@@ -39,7 +39,7 @@ at_generator-requires c = sym c.shows_view.ensures ∙ not-false _ c.if-not-show
 
 pub returns : goal.returns
 unfolding timer_answer timer_rang part_of relay_of
-returns c = 
+returns c =
     let g = generator_for c.args.p.head.view (part_of c.args.p).generators in
     let q = joined c.args.p.head.view c.args.p.head.pending ∷ [] in
     let e : turn_of c.proposes.result ≡ turned (proposes g q) = c.proposes.ensures ∙ rw (

@@ -9,7 +9,7 @@ use Rattle.sheet.proofs.Reading.{after_none, after-some}
 use Rattle.sheet.proofs.after.Goals as goal
 
 pub overflow_add-result : goal.overflow_add-result
-overflow_add-result c = 
+overflow_add-result c =
     let h : c.args.at + 8 ≤ length c.args.b.now = leb-true _ _ (sym c.has_room.ensures ∙ c.if-has_room.true) in
     omega arith
 

@@ -33,7 +33,7 @@ returns-then-steps-gt-MOST c = bad_many _ (omega arith)
 
 pub returns : goal.returns
 unfolding form_of
-returns c = 
+returns c =
     accepts _ _ c.byte_at-mask.ensures
     (omega arith)
     (sym c.is_marked.ensures ∙ not-false _ c.if-not-is_marked.false-raw)

@@ -7,6 +7,6 @@ use Rattle.sheet.proofs.put_head.Goals as goal
 
 pub returns : goal.returns
 unfolding bytes_of fields_of
-returns c = 
+returns c =
     let small : c.args.mask % 256 ≡ c.args.mask = omega arith in
     rw small at c.put_fields.ensures

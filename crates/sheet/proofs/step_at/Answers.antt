@@ -15,18 +15,18 @@ unfolding form_of
 returns-then-not-has_room c = sym (step-none _ _ (leb-false _ _ (sym c.has_room.ensures ∙ not-true _ c.if-not-has_room.true-raw)))
 
 pub overflow_add-at : goal.overflow_add-at
-overflow_add-at c = 
+overflow_add-at c =
     let space : c.args.at + 8 ≤ length c.args.b.now = room c.has_room.ensures c.if-not-has_room.false-raw in
     omega (arith, space)
 
 pub overflow_add-at-2 : goal.overflow_add-at-2
-overflow_add-at-2 c = 
+overflow_add-at-2 c =
     let space : c.args.at + 8 ≤ length c.args.b.now = room c.has_room.ensures c.if-not-has_room.false-raw in
     omega (arith, space)
 
 pub returns : goal.returns
 unfolding form_of
-returns c = 
+returns c =
     let space : c.args.at + 8 ≤ length c.args.b.now = room c.has_room.ensures c.if-not-has_room.false-raw in
     let kind = c.byte_at-kind.ensures ∙ kind_at c.args.b.now c.args.at in
     let id = c.byte_at-id.ensures ∙ id_at c.args.b.now c.args.at in

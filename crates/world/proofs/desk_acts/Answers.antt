@@ -14,7 +14,7 @@ pub desk_commits-requires : goal.desk_commits-requires
 desk_commits-requires c = c.requires
 
 pub returns : goal.returns
-returns c = 
+returns c =
     let d = desk_at (world_at c.args.w.now) c.args.n in
     let ask = desk_asked c.args.kind c.args.x d in
     let is : c.desk_at-desk.result ≡ d = c.desk_at-desk.ensures ∙ sym (desk_at_lem c.args.w.now c.args.n c.requires.1) in

@@ -15,20 +15,20 @@ use Rattle.world.proofs.desk_commits.Goals as goal
 
 pub returns-then-answer-ne0 : goal.returns-then-answer-ne0
 unfolding desk_plan_of desk_left desk_does
-returns-then-answer-ne0 c k a e few d = 
+returns-then-answer-ne0 c k a e few d =
     let x = plan_refuses no_desk a (desk_plan_of c.args.plan) e c.if-answer-ne0.true in
     c.refuses.ensures x.why c.args.w.now x.numbered ∙ ap (desk_left c.args.w.now k c.args.p c.args.n) (sym x.is)
 
 pub returns-then-not-has_room : goal.returns-then-not-has_room
 unfolding desk_plan_of
-returns-then-not-has_room c k a e few d = 
+returns-then-not-has_room c k a e few d =
     c.refuses-then-not-has_room.ensures no_room c.args.w.now refl
     ∙ desk_crowded c.args.w.now c.requires.0 c.args.p c.args.n k a (desk_plan_of c.args.plan) e few d c.if-answer-ne0.false
     (sym (c.has_room.ensures (8 + c.args.n)) ∙ not-true _ c.if-not-has_room.true-raw)
 
 pub returns : goal.returns
 unfolding desk_plan_of
-returns c k a e few d = 
+returns c k a e few d =
     c.tells.ensures _
     ∙ desk-done c.args.w.now c.requires.0 c.args.p c.args.n k a (desk_plan_of c.args.plan) e few d c.if-answer-ne0.false
     (sym (c.has_room.ensures (8 + c.args.n)) ∙ not-false _ c.if-not-has_room.false-raw) _

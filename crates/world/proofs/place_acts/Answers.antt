@@ -12,7 +12,7 @@ use Rattle.world.proofs.Routes.{empty_left, drop-left}
 use Rattle.world.proofs.place_acts.Goals as goal
 
 pub returns-then-is_free : goal.returns-then-is_free
-returns-then-is_free c = 
+returns-then-is_free c =
     let small : c.args.id < 256 = search rules in
     c.refuses.ensures empty c.args.w.now refl ∙ empty_left c.args.w.now c.requires c.args.id small c.args.kind (sym c.is_free.ensures ∙ c.if-is_free.true)
 
@@ -24,7 +24,7 @@ returns-then-kind-eq-DELIVER c = c.deliver.ensures ∙ rw (eq-eqb _ 6 c.if-kind-
 
 pub returns : goal.returns
 unfolding event_of
-returns c = 
+returns c =
     let small : c.args.id < 256 = search rules in
     c.tells.ensures _
     ∙ rw (ne_eqb c.args.kind 6 c.if-kind-eq-DELIVER.false)

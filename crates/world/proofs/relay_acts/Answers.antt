@@ -17,7 +17,7 @@ pub part_at-part-requires : goal.part_at-part-requires
 part_at-part-requires c = c.requires
 
 pub relay_asked-plan-requires : goal.relay_asked-plan-requires
-relay_asked-plan-requires c = 
+relay_asked-plan-requires c =
     let shown : let r = relay_at (world_at c.args.w.now) c.args.s in part_of c.part_at-part.result ≡ narrow r r.view (move 0 0) = rw (c.read_u16-view.ensures ∙ view_at c.args.w.now c.args.s c.requires.1) at c.part_at-part.ensures in
     (c.requires.1, rw (shown) (shows_own (relay_at (world_at c.args.w.now) c.args.s)))
 
@@ -25,7 +25,7 @@ pub relay_commits-requires : goal.relay_commits-requires
 relay_commits-requires c = c.requires
 
 pub returns : goal.returns
-returns c = 
+returns c =
     let shown : let r = relay_at (world_at c.args.w.now) c.args.s in part_of c.part_at-part.result ≡ narrow r r.view (move 0 0) = rw (c.read_u16-view.ensures ∙ view_at c.args.w.now c.args.s c.requires.1) at c.part_at-part.ensures in
     let r = relay_at (world_at c.args.w.now) c.args.s in
     let ask = relay_asked c.args.kind c.args.s (narrow r r.view (move 0 0)) in

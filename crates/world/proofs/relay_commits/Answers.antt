@@ -16,13 +16,13 @@ use Rattle.world.proofs.relay_commits.Goals as goal
 
 pub returns-then-answer-ne0 : goal.returns-then-answer-ne0
 unfolding plan_of relay_left relay_does
-returns-then-answer-ne0 c n a e few d = 
+returns-then-answer-ne0 c n a e few d =
     let x = plan_refuses no_relay a (plan_of c.args.plan) e c.if-answer-ne0.true in
     c.refuses.ensures x.why c.args.w.now x.numbered ∙ ap (relay_left c.args.w.now n c.args.p c.args.s) (sym x.is)
 
 pub returns-then-not-has_room : goal.returns-then-not-has_room
 unfolding plan_of
-returns-then-not-has_room c n a e few d = 
+returns-then-not-has_room c n a e few d =
     c.refuses-then-not-has_room.ensures no_room c.args.w.now refl
     ∙ relay_crowded c.args.w.now c.requires.0 c.args.p c.args.s n a (plan_of c.args.plan) e few d c.if-answer-ne0.false
     (sym (c.has_room.ensures c.args.s) ∙ not-true _ c.if-not-has_room.true-raw)
@@ -32,7 +32,7 @@ has_seats-requires c = c.requires
 
 pub returns-then-not-has_seats : goal.returns-then-not-has_seats
 unfolding plan_of
-returns-then-not-has_seats c n a e few d = 
+returns-then-not-has_seats c n a e few d =
     c.refuses-then-not-has_seats.ensures no_room c.args.w.now refl
     ∙ relay_unseated c.args.w.now c.requires.0 c.args.p c.args.s n a (plan_of c.args.plan) e few d c.if-answer-ne0.false (sym c.has_seats.ensures ∙ not-true _ c.if-not-has_seats.true-raw)
 
@@ -41,7 +41,7 @@ put_part-requires c = c.requires
 
 pub returns : goal.returns
 unfolding plan_of
-returns c n a e few d = 
+returns c n a e few d =
     let w = world_at c.args.w.now in
     let r = widened (relay_at w c.args.s) (part_of c.args.plan.part) in
     let fits = sym c.has_seats.ensures ∙ not-false _ c.if-not-has_seats.false-raw in

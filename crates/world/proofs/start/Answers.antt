@@ -15,7 +15,7 @@ returns-then-mask-eq0 c = c.refuses-then-mask-eq0.ensures bad_step c.args.w.now 
 
 pub returns : goal.returns
 unfolding event_of
-returns c = 
+returns c =
     let small : c.args.mask < 256 = search rules in
     c.tells.ensures _
     ∙ start-done c.args.w.now c.args.mask c.if-w-ne-WORLD_WIDTH.false c.if-mask-eq0.false small _ _ _ c.clear.ensures c.put_relays.ensures c.put_desks.ensures

@@ -21,7 +21,7 @@ desk_commits-requires c = (c.requires.0, omega (arith, c.requires.1.1.1.0, c.req
 
 pub returns : goal.returns
 unfolding message_of
-returns c = 
+returns c =
     let m = message_of c.args.m in
     let n = c.args.m.to - 8 in
     let d = desk_at (world_at c.args.w.now) n in

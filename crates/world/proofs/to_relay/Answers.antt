@@ -21,7 +21,7 @@ relay_commits-requires c = (c.requires.0, c.requires.1.1.1)
 
 pub returns : goal.returns
 unfolding message_of
-returns c = 
+returns c =
     let m = message_of c.args.m in
     let r = relay_at (world_at c.args.w.now) c.args.m.to in
     let x = body_of c.args.m.body in

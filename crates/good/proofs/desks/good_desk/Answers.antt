@@ -12,7 +12,7 @@ returns-then-not-are_members c = fails _ 2 (no c.are_members.ensures c.if-not-ar
 
 pub returns : goal.returns
 unfolding good_desk
-returns c = 
+returns c =
     let view : Fits w16 c.args.d.view = search rules in
     let tries : Fits w16 c.args.d.tries = search rules in
     pass _ _ (in_range view) (pass _ _ (in_range tries) (pass _ _ (yes c.are_members.ensures c.if-not-are_members.false-raw) (last _ c.good_phase.ensures)))

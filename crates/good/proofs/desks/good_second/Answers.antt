@@ -9,6 +9,6 @@ returns-then-not-good_pair c = (fails _ 0 (no c.good_pair.ensures c.if-not-good_
 
 pub returns : goal.returns
 unfolding good_phase
-returns c = 
+returns c =
     let e = yes c.good_pair.ensures c.if-not-good_pair.false-raw in
     (pass _ _ e (last _ c.no_best.ensures), pass _ _ e (last _ c.no_best.ensures))

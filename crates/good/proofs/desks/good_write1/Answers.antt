@@ -18,7 +18,7 @@ returns-then-holds-ne0-2 c = fails _ 2 (ne_eqb _ _ c.if-holds-ne0-2.true)
 
 pub returns : goal.returns
 unfolding good_phase
-returns c = 
+returns c =
     let count : Fits w16 c.args.d.holds.stamp.count = search rules in
     let value : Fits w32 c.args.d.holds.value = search rules in
     let e = eq-eqb _ _ c.if-holds-ne0.false in

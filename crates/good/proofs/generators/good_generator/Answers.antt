@@ -35,7 +35,7 @@ returns-then-not-good_notes c = fails _ 6 (no c.good_notes.ensures c.if-not-good
 
 pub returns : goal.returns
 unfolding good_generator generator_of
-returns c = 
+returns c =
     let view_fits : Fits w16 c.args.g.view = search rules in
     pass _ _ (in_range (view_fits))
     (pass _ _ (yes c.is_member.ensures c.if-not-is_member.false-raw)

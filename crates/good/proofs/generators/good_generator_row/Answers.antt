@@ -9,12 +9,12 @@ use Rattle.good.proofs.generators.good_generator_row.Goals as goal
 
 pub returns-then-not-good_generator : goal.returns-then-not-good_generator
 unfolding row_good
-returns-then-not-good_generator c = 
+returns-then-not-good_generator c =
     row_fails (good_generator _) generator_bytes (generator_read _ _ c.generator_at-g.ensures) c.good_generator.ensures _
     c.if-not-good_generator.true-raw
 
 pub returns : goal.returns
 unfolding row_good
-returns c = 
+returns c =
     row_answers (good_generator _) generator_bytes (generator_read _ _ c.generator_at-g.ensures) c.good_generator.ensures
     _ _ _ c.if-not-good_generator.false-raw (length_generator _) c.put_generator.ensures c.same_part.ensures

@@ -20,6 +20,6 @@ returns-then-not-above c = fails _ 1 (no c.above.ensures c.if-not-above.true-raw
 
 pub returns : goal.returns
 unfolding good_installed
-returns c = 
+returns c =
     pass _ _ (ap not (some_test (views_of c.args.q) (omega (arith, c.count.ensures.0, c.if-count-eq0.false))))
     (pass _ _ (yes c.above.ensures c.if-not-above.false-raw) (last _ (ap (λ (x : ℕ). eqb x c.args.w) c.least.ensures)))

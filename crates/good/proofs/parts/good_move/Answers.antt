@@ -12,6 +12,6 @@ returns-then-members-eq0 c = fails _ 1 (ap not (eq-eqb _ _ (sym c.members.ensure
 
 pub returns : goal.returns
 unfolding good_move
-returns c = 
+returns c =
     pass _ _ (lt-ltb _ _ c.ranges.w.fits)
     (pass _ _ (ap not (ne_eqb _ _ (λ z. c.if-members-eq0.false (c.members.ensures ∙ z)))) (last _ c.inside.ensures))

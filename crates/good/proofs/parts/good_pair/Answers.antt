@@ -10,7 +10,7 @@ use Rattle.good.proofs.parts.good_pair.Goals as goal
 
 pub returns : goal.returns
 unfolding is_pair
-returns c = 
+returns c =
     let count : Fits w16 c.args.p.stamp.count = search rules in
     let value : Fits w32 c.args.p.value = search rules in
     rw (lt-ltb _ _ count.fits, lt-ltb _ _ value.fits) (sym (and-true _))

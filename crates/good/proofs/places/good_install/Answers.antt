@@ -14,13 +14,13 @@ returns-then-not-good_installed c = fails _ 1 (no c.good_installed.ensures c.if-
 
 pub returns-then-between : goal.returns-then-between
 unfolding good_place good_body
-returns-then-between c = 
+returns-then-between c =
     pass _ _ (yes c.good_move.ensures c.if-not-good_move.false-raw)
     (pass _ _ (yes c.good_installed.ensures c.if-not-good_installed.false-raw) (last _ (either_first _ (sym c.between.ensures ∙ c.if-between.true))))
 
 pub returns : goal.returns
 unfolding good_place good_body
-returns c = 
+returns c =
     pass _ _ (yes c.good_move.ensures c.if-not-good_move.false-raw)
     (pass _ _ (yes c.good_installed.ensures c.if-not-good_installed.false-raw)
     (last _ (either_next (sym c.between.ensures ∙ c.if-between.false) c.between-2.ensures)))

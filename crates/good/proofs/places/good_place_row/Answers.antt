@@ -9,7 +9,7 @@ use Rattle.rules.specs.WellFormed.{good_place}
 use Rattle.rules.specs.State.{waiting}
 use Rattle.state.specs.Meaning.{message_of}
 use Rattle.state.specs.declared.Message.{Message}
-use Rattle.image.specs.Parts.{message_row, message_row_at}
+use Rattle.image.specs.Parts.{message_row_at}
 use Rattle.image.proofs.Widths.{length-row}
 use Rattle.image.proofs.Meaning.{message-read}
 use Rattle.good.specs.Rows.{held, place_good}

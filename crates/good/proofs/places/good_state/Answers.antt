@@ -14,7 +14,7 @@ returns-then-not-between c = fails _ 1 (no c.between.ensures c.if-not-between.tr
 
 pub returns : goal.returns
 unfolding good_place good_body
-returns c = 
+returns c =
     pass _ _ (yes c.good_move.ensures c.if-not-good_move.false-raw)
     (pass _ _ (yes c.between.ensures c.if-not-between.false-raw)
     (last_then _ _ c.good_pair.ensures (sym (last _ (sym (in_range c.ranges.u))))))

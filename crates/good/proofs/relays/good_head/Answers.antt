@@ -18,7 +18,7 @@ returns-then-not-good_active c = fails _ 4 (no c.good_active.ensures c.if-not-go
 
 pub returns : goal.returns
 unfolding good_relay relay_of
-returns c = 
+returns c =
     let view : Fits w16 c.args.h.view = search rules in
     let known : Fits w16 c.args.h.known = search rules in
     let pending : Fits w16 c.args.h.pending = search rules in

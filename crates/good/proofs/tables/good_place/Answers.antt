@@ -14,17 +14,17 @@ unfolding place_filled
 returns-then-not-other_names c = both_fail _ (no c.other_names.ensures c.if-not-other_names.true-raw)
 
 pub overflow_mul-o : goal.overflow_mul-o
-overflow_mul-o c = 
+overflow_mul-o c =
     let inside : c.args.i * c.args.width ≤ (seat_count - 1) * generator_width = rows_inside _ (seat_count - 1) _ (omega arith) (search rules) in
     let h = inside in search rules
 
 pub overflow_add-o : goal.overflow_add-o
-overflow_add-o c = 
+overflow_add-o c =
     let inside : c.args.i * c.args.width ≤ (seat_count - 1) * generator_width = rows_inside _ (seat_count - 1) _ (omega arith) (search rules) in
     let h = inside in search rules
 
 pub good_generator_row-requires : goal.good_generator_row-requires
-good_generator_row-requires c = 
+good_generator_row-requires c =
     let inside : c.args.i * c.args.width ≤ (seat_count - 1) * generator_width = rows_inside _ (seat_count - 1) _ (omega arith) (search rules) in
     let h = inside in search rules
 
@@ -33,7 +33,7 @@ unfolding place_filled row_good
 returns-then-generators c = both_pass (yes c.other_names.ensures c.if-not-other_names.false-raw) (rw c.if-generators.true c.good_generator_row.ensures)
 
 pub good_transfer_row-requires : goal.good_transfer_row-requires
-good_transfer_row-requires c = 
+good_transfer_row-requires c =
     let inside : c.args.i * c.args.width ≤ (seat_count - 1) * generator_width = rows_inside _ (seat_count - 1) _ (omega arith) (search rules) in
     let h = inside in search rules
 

@@ -1,6 +1,6 @@
 -- `good::tables::good_table` meets its contract: the places before i are good. Assumes nothing.
 use mathlib.Core.Path.{◌≡◌, sym, ◌∙◌}
-use mathlib.Core.Bool.{Bool, true, false}
+use mathlib.Core.Bool.{Bool, false}
 use Prim.Native.Nat.{◌*◌, ◌-◌, ◌≤◌}
 use native.Mathlib.Omega.{arith}
 use borrow.Author.Rules.{rules}
@@ -21,23 +21,23 @@ pub loop-i-init : goal.loop-i-init
 loop-i-init c = passed_none
 
 pub overflow_mul-i : goal.overflow_mul-i
-overflow_mul-i c = 
+overflow_mul-i c =
     let inside : (c.loop-i.i * c.args.width ≤ (seat_count - 1) * generator_width) × ((seat_count - c.loop-i.i) * c.args.width ≤ generators_width) = (rows_inside _ (seat_count - 1) _ (omega arith) (omega arith), rows_inside _ seat_count _ (omega arith) (omega arith)) in
     let h = inside in search rules
 
 pub overflow_add-at : goal.overflow_add-at
-overflow_add-at c = 
+overflow_add-at c =
     let inside : (c.loop-i.i * c.args.width ≤ (seat_count - 1) * generator_width) × ((seat_count - c.loop-i.i) * c.args.width ≤ generators_width) = (rows_inside _ (seat_count - 1) _ (omega arith) (omega arith), rows_inside _ seat_count _ (omega arith) (omega arith)) in
     let h = inside in search rules
 
 pub overflow_mul-i-in-loop-i : goal.overflow_mul-i-in-loop-i
-overflow_mul-i-in-loop-i c = 
+overflow_mul-i-in-loop-i c =
     let inside : (c.loop-i.i * c.args.width ≤ (seat_count - 1) * generator_width) × ((seat_count - c.loop-i.i) * c.args.width ≤ generators_width) = (rows_inside _ (seat_count - 1) _ (omega arith) (omega arith), rows_inside _ seat_count _ (omega arith) (omega arith)) in
     let h = inside in search rules
 
 pub returns-then-is_zero : goal.returns-then-is_zero
 unfolding filled_good
-returns-then-is_zero c = 
+returns-then-is_zero c =
     passed_rest c.loop-i.invariant
     (λ k h. sym (either_first _ (zero_later _ _ _ _ k h (sym c.is_zero.ensures ∙ c.if-is_zero.true))))
 

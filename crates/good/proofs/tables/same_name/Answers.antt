@@ -18,6 +18,6 @@ returns-then-read_u16 c = rw c.if-generators.false (ap not (both_fail _ (ne_eqb 
 
 pub returns : goal.returns
 unfolding other_row transfer_at
-returns c = 
+returns c =
     rw c.if-generators.false (ap not (both_pass (eq-eqb _ _ (sym c.read_u16-2.ensures ∙ c.if-read_u16.false ∙ c.read_u16-3.ensures))
     (ap₂ eqb c.read_u16-4.ensures c.read_u16-5.ensures)))

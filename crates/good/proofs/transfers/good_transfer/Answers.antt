@@ -26,7 +26,7 @@ returns-then-not-are_members c = fails _ 3 (no c.are_members.ensures c.if-not-ar
 
 pub returns : goal.returns
 unfolding good_transfer transfer_of
-returns c = 
+returns c =
     let gathered_fits : Fits w16 c.args.t.gathered = search rules in
     pass _ _ (yes c.is_member.ensures c.if-not-is_member.false-raw)
     (pass _ _ (yes c.good_move.ensures c.if-not-good_move.false-raw)

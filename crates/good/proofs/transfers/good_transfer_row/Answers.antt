@@ -9,12 +9,12 @@ use Rattle.good.proofs.transfers.good_transfer_row.Goals as goal
 
 pub returns-then-not-good_transfer : goal.returns-then-not-good_transfer
 unfolding row_good
-returns-then-not-good_transfer c = 
+returns-then-not-good_transfer c =
     row_fails (good_transfer _) transfer_bytes (transfer_read _ _ c.transfer_at-t.ensures) c.good_transfer.ensures _
     c.if-not-good_transfer.true-raw
 
 pub returns : goal.returns
 unfolding row_good
-returns c = 
+returns c =
     row_answers (good_transfer _) transfer_bytes (transfer_read _ _ c.transfer_at-t.ensures) c.good_transfer.ensures
     _ _ _ c.if-not-good_transfer.false-raw (length_transfer _) c.put_transfer.ensures c.same_part.ensures

@@ -8,6 +8,6 @@ use Rattle.relay.proofs.transfers.onward.Goals as goal
 
 pub returns : goal.returns
 unfolding transfer_of
-returns c = 
+returns c =
     let full : length c.args.t.sequence.views ≡ 15 = search rules in
     held_beyond _ _ c.args.t.sequence full c.beyond.ensures

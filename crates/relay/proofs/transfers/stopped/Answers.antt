@@ -15,7 +15,7 @@ returns-then-not-inside c = rw (sym c.is_member.ensures ∙ not-false _ c.if-not
 
 pub returns : goal.returns
 unfolding part_of relay_of with_active
-returns c = 
+returns c =
     rw (
       sym c.is_member.ensures ∙ not-false _ c.if-not-is_member.false-raw,
       sym c.inside.ensures ∙ not-false _ c.if-not-inside.false-raw,

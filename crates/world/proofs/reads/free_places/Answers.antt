@@ -15,6 +15,6 @@ pub loop-p-preserved : goal.loop-p-preserved
 loop-p-preserved c = (rw (rows_more c.args.w.now c.loop-p.p, ← c.is_free.ensures, ← byte-is c.is_free.result, c.loop-p.invariant.0), omega (arith, byte_le c.is_free.result))
 
 pub returns : goal.returns
-returns c = 
+returns c =
     let z : c.loop-p.p ≡ 256 = omega arith in
     (rw z at c.loop-p.invariant.0, omega arith)

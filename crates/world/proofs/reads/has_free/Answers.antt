@@ -13,18 +13,18 @@ pub loop-p-init : goal.loop-p-init
 loop-p-init c = (rows_none _, omega arith)
 
 pub returns-then-n-seen : goal.returns-then-n-seen
-returns-then-n-seen c = 
+returns-then-n-seen c =
     let one = rows_one c.args.w.now c.loop-p.p (sym c.is_free.ensures ∙ c.if-is_free.true) in
     sym (le-leb c.args.n (free_rows c.args.w.now 256) (omega (arith, rows_grow c.args.w.now (c.loop-p.p + 1) 256 (omega arith))))
 
 pub loop-p-preserved : goal.loop-p-preserved
 loop-p-preserved c =
     elim c.if-is_free.branch [
-      then-is_free+else-n-seen w ↦ let one = rows_one c.args.w.now c.loop-p.p (sym c.is_free.ensures ∙ w.if-is_free.true) in omega arith
+      | then-is_free+else-n-seen w ↦ let one = rows_one c.args.w.now c.loop-p.p (sym c.is_free.ensures ∙ w.if-is_free.true) in omega arith
       | else-is_free w ↦ let same = rows_same c.args.w.now c.loop-p.p (sym c.is_free.ensures ∙ w.if-is_free.false) in omega arith
     ]
 
 pub returns : goal.returns
-returns c = 
+returns c =
     let z : c.loop-p.p ≡ 256 = omega arith in
     ap (leb c.args.n) (rw z at c.loop-p.invariant.0)

@@ -21,11 +21,11 @@ lacking m n o h = go (leb m (n + o)) refl
     go false e = lt-leb (m - o) n (omega (arith, leb-false m (n + o) e))
 
 pub returns-then-needed-own : goal.returns-then-needed-own
-returns-then-needed-own c from = 
+returns-then-needed-own c from =
     let out = c.outgoing-needed.ensures from in
     sym (le-leb (length (outgoing from (sendings_of c.args.x))) (free_rows c.args.w.now 256 + (if ltb c.args.p 256 then 1 else 0)) (omega (arith, out)))
 
 pub returns : goal.returns
-returns c from = 
+returns c from =
     c.has_free.ensures ∙ lacking c.outgoing-needed.result (free_rows c.args.w.now 256) c.delivered-own.result (omega arith)
     ∙ rw (c.outgoing-needed.ensures from, c.delivered-own.ensures)

@@ -19,13 +19,13 @@ pub loop-i-smaller : goal.loop-i-smaller
 loop-i-smaller c = omega arith
 
 pub loop-i-preserved : goal.loop-i-preserved
-loop-i-preserved c = 
+loop-i-preserved c =
     let full : length c.args.x.of ≡ most = search rules in
     let h : c.loop-i.i < length c.args.x.of = omega (arith, full) in
     (λ from. rw (c.loop-i.invariant.0 from, c.receivers-n.ensures.0) (sym (out_counted from c.args.x.of c.loop-i.i _ h)), (omega arith, omega arith))
 
 pub returns : goal.returns
 unfolding sendings_of
-returns c from = 
+returns c from =
     let full : length c.args.x.of ≡ most = search rules in
     c.loop-i.invariant.0 from ∙ ap length (out_all from c.args.x.of c.loop-i.i (omega (arith, full)))

@@ -7,7 +7,7 @@ use Rattle.world.proofs.reads.part_at.Goals as goal
 
 pub returns : goal.returns
 unfolding part_of
-returns c = 
+returns c =
     let m = move c.args.o c.args.n in
     part_is c.args.w.now c.requires.0 c.args.s c.requires.1 c.args.v m _ _ _ c.head_at-head.ensures
     (generators_shown c.args.w.now c.requires.0 c.args.s c.requires.1 c.args.v m _ _ _ c.generator_seat-i.ensures c.is_filled-generates.ensures c.generator_in-generator.ensures)

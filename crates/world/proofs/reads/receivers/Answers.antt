@@ -17,11 +17,11 @@ pub overflow_add-r : goal.overflow_add-r
 overflow_add-r c = omega (arith, byte_le (bit c.args.m c.loop-n.n))
 
 pub loop-n-preserved : goal.loop-n-preserved
-loop-n-preserved c = 
+loop-n-preserved c =
     let b = bit c.args.m c.loop-n.n in
     (rw (receiver_counted c.args.m c.loop-n.n, ← byte-is b, c.loop-n.invariant.0), omega (arith, byte_le b))
 
 pub returns : goal.returns
-returns c = 
+returns c =
     let z : c.loop-n.n ≡ 12 = omega arith in
     (rw z at c.loop-n.invariant.0, omega arith)

@@ -9,6 +9,6 @@ use Rattle.world.proofs.run.put_row.Goals as goal
 
 pub returns : goal.returns
 unfolding columns columns_of
-returns c = 
+returns c =
     c.put_fields.ensures
     ∙ ap (λ (x : List ℕ). placed c.args.rows.now c.args.at (columns_bytes (c.args.a.number ∷ x))) c.columns_of-c.ensures

@@ -18,16 +18,19 @@ pub returns-then-rows-s : goal.returns-then-rows-s
 returns-then-rows-s c = let both = left-full c.args.sheet.now c.args.world.now c.args.rows.now c.if-world-ne-WORLD_WIDTH.false c.check-s.result c.check-s.ensures c.if-s.false c.if-rows-s.true in record { answer = both.0; last = both.1.0; rows = both.1.1 }
 
 pub turns-requires : goal.turns-requires
-turns-requires c = 
+turns-requires c =
     let small : c.check-s.result.mask < 256 = search rules in
-    let f = found_facts c.args.sheet.now c.check-s.result c.check-s.ensures c.if-s.false in record { w_value = (
+    let f = found_facts c.args.sheet.now c.check-s.result c.check-s.ensures c.if-s.false in record {
+      w_value = (
         (started c.args.sheet.now c.check-s.result.mask f.0 f.1 small c.args.world.now c.start.new.w c.start.result c.if-world-ne-WORLD_WIDTH.false
             c.start.ensures).0,
         f.0,
-      ); trace_row_width_in_bounds = omega (arith, steps_long c.args.sheet.now c.check-s.result c.check-s.ensures c.if-s.false, c.if-rows-s.false) }
+      );
+      trace_row_width_in_bounds = omega (arith, steps_long c.args.sheet.now c.check-s.result c.check-s.ensures c.if-s.false, c.if-rows-s.false);
+    }
 
 pub returns : goal.returns
-returns c = 
+returns c =
     let small : c.check-s.result.mask < 256 = search rules in
     let f = found_facts c.args.sheet.now c.check-s.result c.check-s.ensures c.if-s.false in
     let is = (started c.args.sheet.now c.check-s.result.mask f.0 f.1 small c.args.world.now c.start.new.w c.start.result c.if-world-ne-WORLD_WIDTH.false

@@ -16,7 +16,10 @@ shape_of-w c = ap length c.put_message.ensures ∙ placed-length _ _ _
 
 pub returns : goal.returns
 unfolding message
-returns c = 
-    record { next = taken_put c.args.w.now _ _ _ c.first_free-p.ensures c.put_message.ensures; bytes = λ W long e. c.put_message.ensures
+returns c =
+    record {
+      next = taken_put c.args.w.now _ _ _ c.first_free-p.ensures c.put_message.ensures;
+      bytes = λ W long e. c.put_message.ensures
           ∙ rw (plain_place c.args.from c.args.to c.args.body _ c.plain-plain.ensures, e)
-          (put_lowest W long (message c.args.from (body_of c.args.body) c.args.to) _ (rw e at c.first_free-p.ensures) c.if-p-ge256.false) }
+          (put_lowest W long (message c.args.from (body_of c.args.body) c.args.to) _ (rw e at c.first_free-p.ensures) c.if-p-ge256.false);
+    }

@@ -12,7 +12,7 @@ pub overflow_add-at : goal.overflow_add-at
 overflow_add-at c = omega arith
 
 pub loop-i-preserved : goal.loop-i-preserved
-loop-i-preserved c = 
+loop-i-preserved c =
     wrote_more (λ k. length_transfer _) c.requires _ _ c.loop-i.invariant c.loop-i-test.true (omega arith)
     (rw (kept_at _ c.loop-i.i) at c.put_transfer.ensures)
 

@@ -10,13 +10,13 @@ pub put_transfers-requires : goal.put_transfers-requires
 put_transfers-requires c = c.requires
 
 pub returns-then-not-part : goal.returns-then-not-part
-returns-then-not-part c g h = 
+returns-then-not-part c g h =
     c.put_head.ensures
     ∙ rw (c.put_transfers.ensures h) (head_written c.args.w.now c.requires.0 c.args.s c.requires.1 c.args.part)
     ∙ ap (λ (r : Relay). image (with_relay (world_at c.args.w.now) c.args.s r)) (none_written c.args.w.now c.requires.0 c.args.s c.requires.1 c.args.part (not-true _ c.if-not-part.true))
 
 pub returns : goal.returns
-returns c g h = 
+returns c g h =
     let some = not-false _ c.if-not-part.false in
     let low = seated_some c.args.w.now c.requires.0 c.args.s c.requires.1 c.args.part some _ c.generator_seat-i.ensures in
     c.put_generator.ensures

@@ -17,7 +17,7 @@ pub shape_of-w-then-view-read_u16 : goal.shape_of-w-then-view-read_u16
 shape_of-w-then-view-read_u16 c = ap length c.put_kept.ensures ∙ placed-length _ _ _
 
 pub returns-then-view-read_u16 : goal.returns-then-view-read_u16
-returns-then-view-read_u16 c h = 
+returns-then-view-read_u16 c h =
     c.put_kept.ensures
     ∙ moved-written c.args.w.now c.requires.0 c.args.s c.requires.1 c.args.part (λ e. c.if-view-read_u16.true (e ∙ sym c.read_u16.ensures)) (map transfer_of c.kept_transfers-kept.result.of) c.kept_transfers-kept.ensures
 
@@ -28,7 +28,7 @@ pub shape_of-w : goal.shape_of-w
 shape_of-w c = ap length c.put_transfer.ensures ∙ placed-length _ _ _
 
 pub returns : goal.returns
-returns c h = 
+returns c h =
     let same = c.if-view-read_u16.false ∙ c.read_u16.ensures in
     let some = not-false _ c.if-not-part.false in
     let low = moves_seated c.args.w.now c.requires.0 c.args.s c.requires.1 c.args.part same some _ c.transfer_seat-i.ensures in

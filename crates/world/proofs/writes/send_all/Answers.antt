@@ -15,7 +15,7 @@ pub loop-i-smaller : goal.loop-i-smaller
 loop-i-smaller c = omega arith
 
 pub loop-i-preserved : goal.loop-i-preserved
-loop-i-preserved c = 
+loop-i-preserved c =
     let full : length c.args.x.of ≡ most = search rules in
     let more = out_more c.args.from c.args.x.of c.loop-i.i in
     (omega arith, placed_more c.loop-i.invariant.1 _ (more _ (omega (arith, full))) _ c.send.auto.w c.send.ensures)
@@ -25,6 +25,6 @@ shape_of-w c = c.loop-i.invariant.1.long
 
 pub returns : goal.returns
 unfolding sendings_of
-returns c W long e = 
+returns c W long e =
     let full : length c.args.x.of ≡ most = search rules in
     rw (← out_all c.args.from c.args.x.of c.loop-i.i (omega (arith, full))) (c.loop-i.invariant.1.is W long e)
