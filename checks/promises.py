@@ -459,6 +459,12 @@ def function(path, name, start):
     return Function(path, name, parameters(path, text, start, listed), result, promises)
 
 
+# The static libraries of crates.txt, each with the crates that it stands on.
+@functools.lru_cache(None)
+def static_libraries():
+    return {name: words.split() for name, words in re.findall(r'^(\w+) +staticlib *:([^#\n]*)', read('crates.txt'), re.M)}
+
+
 # A module is public where it is the crate's own, or lib.rt says so.
 def is_public(path):
     crate, module = place(path)
