@@ -1,5 +1,5 @@
-/* The engine for C: the functions of target/staticlib/libengine.a, which `rt staticlib engine` makes at the repository's top, for x86-64 Linux.
-   c/steps.c is an example; what each function answers and leaves in every buffer is promised, and proved, in crates/engine/src/lib.rt.
+/* The engine for C: the functions of target/staticlib/libengine.a, which checks/archive makes at the repository's top, for x86-64 Linux.
+   c/steps.c is an example; what each function answers and leaves in every buffer is promised, and proved, in crates/engine_c/src/lib.rt.
 
    A slice is a pointer and then a length. What a caller owes, which no proof can look at:
    - a pointer is valid for the length given with it, for reading, and for writing where it is not const; it is not NULL, also where the length is 0;
