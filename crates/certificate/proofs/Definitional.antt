@@ -1,6 +1,7 @@
 -- Demands 1 and 2 speak of programs that keep the promises of the sources (`Promised`): there is one, the definitions themselves. So the two are not about
 -- nothing.
 -- Assumes nothing.
+use Rattle.std.specs.Prelude.{◌&&◌}
 use mathlib.Core.Path.{◌≡◌, refl}
 use mathlib.Core.List.{List}
 use Prim.Native.Nat.{ℕ, ◌+◌, ◌-◌}
@@ -11,7 +12,6 @@ use Rattle.rules.specs.Messages.{Answer as RuleAnswer, refused, does, outgoing, 
 use Rattle.rules.specs.State.{Relay, Place, free, waiting, World, place_at}
 use Rattle.rules.specs.declared.Desk.{Desk}
 use Rattle.rules.specs.declared.Step.{Step}
-use Rattle.rules.specs.Sets.{◌&&◌}
 use Rattle.rules.specs.Steps.{Act, join, leave, timer, read, write, deliver, drop, crash, bad, told, Outcome, refusal, done, report, reports, roomy, relay_does, desk_does, alive_in, if_alive, freed, delivers, delivery, dropping, crashing, acts, stepped}
 use Rattle.layout.specs.Layout.{world_width}
 use Rattle.layout.specs.Image.{world_at, good_bytes}

@@ -1,5 +1,6 @@
 -- DEMANDS 1 and 2 (specs/Demand1, specs/Demand2), proved of every program that keeps the promises of the sources: `demand1`, `demand2`. (Demand 3 is
 -- `Safety.safety`, in crates/safety.) Assumes nothing.
+use Rattle.std.specs.Prelude.{if◌then◌else◌, ◌||◌}
 use mathlib.Core.Path.{◌≡◌, refl, sym, ap, subst, ◌∙◌}
 use mathlib.Core.Bool.{Bool, true, false, not}
 use mathlib.Core.List.{List, [], ◌∷◌, ◌++◌, map}
@@ -10,7 +11,6 @@ use lib.Dec.{eqb, leb, ltb, lit≤}
 use lib.ListN.{length, take, drop}
 use borrow.Author.Tests.{ltb-true, ltb-false, eq-eqb, ne_eqb, lt-leb, le-ltb}
 use Rattle.views.proofs.Truth.{contrary}
-use Rattle.rules.specs.Sets.{◌||◌, if◌then◌else◌}
 use Rattle.rules.specs.Messages.{bad_step, number}
 use Rattle.rules.specs.Messages as refusals
 use Rattle.rules.specs.State.{World, start}

@@ -4,6 +4,7 @@
 --
 -- Each line is the promise as it stands in the source (checks/total compares them): r is the result; of a lent buffer, its name is what it held
 -- before and b what it holds afterwards. A function with several promises has a line for each, by its name.
+use Rattle.std.specs.Prelude.{if◌then◌else◌}
 use mathlib.Core.Path.{◌≡◌, refl, sym, ap, ◌∙◌}
 use mathlib.Core.List.{List, [], ◌∷◌}
 use Prim.Native.Nat.{ℕ, ◌+◌, ◌≤◌, min}
@@ -31,7 +32,6 @@ use Rattle.rules.specs.Desks.{begun, ended}
 use Rattle.rules.specs.Desks as desks
 use Rattle.layout.specs.Image.{sequence_bytes, pair_at, head_bytes, generator_bytes, transfer_bytes, desk_bytes, desk_at, row_bytes, good_bytes}
 use Rattle.layout.specs.Lent.{Lent, lent_start, lent_step}
-use Rattle.rules.specs.Sets.{if◌then◌else◌}
 use Rattle.rules.specs.Sheets as sheets
 use Rattle.rules.specs.Runs.{decimal, line, fields, start_of, end_of, bad_of}
 use Rattle.rules.specs.declared.Desk.{Desk}

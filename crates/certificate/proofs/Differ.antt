@@ -1,11 +1,11 @@
 -- Two values differ where some number that can be found in both does: the one law by which wrong programs are refuted. Assumes nothing.
+use Rattle.std.specs.Prelude.{if◌then◌else◌}
 use mathlib.Core.Path.{◌≡◌, ap, subst}
 use mathlib.Core.Bool.{Bool, not}
 use mathlib.Core.List.{List}
 use Prim.Native.Nat.{ℕ}
 use lib.Dec.{T, T_not, eqb, eqb_refl}
 use lib.ListN.{get_or}
-use Rattle.rules.specs.Sets.{if◌then◌else◌}
 
 -- x and y cannot be equal: the number that f finds in them is not the same, which is computed
 pub differ : {A : Type 0} {x y : A} (f : A → ℕ) → x ≡ y → T (not (eqb (f x) (f y))) → ⊥

@@ -1,4 +1,5 @@
 -- The `end` line of a record says its four numbers: from the bytes they are read back. Assumes nothing.
+use Rattle.std.specs.Prelude.{if◌then◌else◌}
 use mathlib.Core.Path.{◌≡◌, sym, ap, ◌∙◌}
 use mathlib.Core.Logic.{◌⊎◌, inl, inr}
 use mathlib.Core.Bool.{true, false}
@@ -9,7 +10,6 @@ use lib.Dec.{ltb}
 use lib.ListN.{drop}
 use borrow.Author.Tests.{ltb-true, ltb-false, le-ltb, lt-ltb}
 use Rattle.views.proofs.Truth.{decided}
-use Rattle.rules.specs.Sets.{if◌then◌else◌}
 use Rattle.rules.specs.Runs.{decimal, line, end_of}
 use Rattle.record.proofs.Digits.{decimal_one, decimal_more}
 

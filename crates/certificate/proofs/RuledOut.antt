@@ -1,6 +1,7 @@
 -- Wrong programs that the promises rule out, two or more for every public function: views, stamps, rows and rules. Each line says that the promise, with a
 -- wrong program in the place of the result, does not hold for every input; its name says what the program does; its proof names an input at which the two
 -- differ, one that the function's parameters can have, and the difference is computed. Assumes nothing.
+use Rattle.std.specs.Prelude.{if◌then◌else◌}
 use mathlib.Core.Path.{◌≡◌}
 use mathlib.Core.Bool.{true, not, ◌&&◌, cond}
 use mathlib.Core.List.{List, [], ◌∷◌, ◌++◌}
@@ -10,7 +11,7 @@ use lib.Count.{ones, ones_in}
 use lib.Dec.{T, eqb, leb, ltb}
 use lib.IntN.{ℤ, pos, negsuc}
 use lib.ListN.{length, get_or, take, drop, replicate}
-use Rattle.views.specs.Choice.{if◌then◌else◌, those}
+use Rattle.views.specs.Choice.{those}
 use Rattle.views.specs.View.{bit_of, members_of, member_of, quorum_of, reaches_of, within_of, inside_of, clash_of}
 use Rattle.views.specs.Chain.{some, has_of, lacks_of, conflict_of, same_of, least_of, most_of, plus_of, union_of, heard_of, beyond_of, above_of}
 use Rattle.views.specs.Row.{views_of, row_of}

@@ -1,4 +1,5 @@
 -- Wrong programs that the promises rule out: sheet and record. Assumes nothing.
+use Rattle.std.specs.Prelude.{if◌then◌else◌}
 use mathlib.Core.Path.{◌≡◌}
 use mathlib.Core.Bool.{true, false, not, ◌&&◌}
 use mathlib.Core.List.{List, [], ◌∷◌, ◌++◌}
@@ -8,7 +9,6 @@ use lib.ListN.{length, get_or, set, take, drop, replicate}
 use denote.Ref.{Bor}
 use Rattle.rows.specs.Bytes.{number_at, bytes_of, run, zeros}
 use Rattle.rows.specs.Tests.{all, all_zero}
-use Rattle.rules.specs.Sets.{if◌then◌else◌}
 use Rattle.rules.specs.Sheets.{version1, form_of, value_at, step_width, step_in, all_zeros_in, steps_bytes, mark, mask_at, mask_in, header_width}
 use Rattle.rules.specs.Sheets.{steps_of, is_bad_sheet, sheet_bytes, number, written}
 use Rattle.rules.specs.Runs.{digits, decimal, line, start_word, bad_word, start_of, end_of, bad_of}

@@ -1,4 +1,5 @@
 -- Wrong programs that the promises rule out: good, world, rehearsal and engine. Assumes nothing.
+use Rattle.std.specs.Prelude.{if◌then◌else◌}
 use mathlib.Core.Path.{◌≡◌, refl, sym, ap, ◌∙◌}
 use mathlib.Core.Bool.{Bool, true, false, not, ◌&&◌}
 use mathlib.Core.List.{List, [], ◌∷◌, ◌++◌}
@@ -7,7 +8,7 @@ use lib.Dec.{T, eqb, leb, ltb}
 use lib.ListN.{length, get_or, drop, replicate}
 use Rattle.rows.specs.Bytes.{number_at, splice, placed, bytes_of, fields_of, be32, run, cat, zeros}
 use Rattle.rows.specs.Tests.{all, all_zero}
-use Rattle.rules.specs.Sets.{if◌then◌else◌, those}
+use Rattle.rules.specs.Sets.{those}
 use Rattle.rules.specs.State.{World, no_relay, start}
 use Rattle.rules.specs.Sending.{waiting_in}
 use Rattle.rules.specs.WellFormed.{well_formed}

@@ -1,8 +1,7 @@
 -- DEMAND 1, as a type over programs: every step, start or sheet handed in, with any bytes, gets a number of document 01's table, the first of the rows that
 -- applies; and any answer but 0 changes no byte of a lent buffer (but that a bad sheet's record is `bad 9`) and reports nothing. (That the work always ends is in the language: a proved function ends.)
 -- Assumes nothing.
-use Rattle.std.specs.Prelude.{◌≡◌, Bool, not, List, [], ◌∷◌, ◌++◌, ℕ, ◌≤◌, ◌<◌, eqb, leb, ltb, length, drop}
-use Rattle.rules.specs.Sets.{◌||◌, if◌then◌else◌}
+use Rattle.std.specs.Prelude.{◌≡◌, Bool, not, List, [], ◌∷◌, ◌++◌, ℕ, ◌≤◌, ◌<◌, eqb, leb, ltb, length, drop, if◌then◌else◌, ◌||◌}
 use Rattle.rules.specs.Messages.{bad_world, bad_step, no_room, number}
 use Rattle.rules.specs.declared.Step.{Step}
 use Rattle.rules.specs.Steps.{no_report}

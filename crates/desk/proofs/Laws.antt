@@ -1,4 +1,5 @@
 -- What the tests of a reply say. Assumes nothing.
+use Rattle.std.specs.Prelude.{if◌then◌else◌}
 use Prim.Native.Nat.{ℕ, ◌≤◌, ◌+◌}
 use mathlib.Core.Path.{◌≡◌, refl, ◌∙◌}
 use mathlib.Core.Bool.{Bool, true, false, ◌&&◌, ◌||◌, and-eq-true_iff}
@@ -6,7 +7,6 @@ use native.Mathlib.Omega.{arith}
 use lib.Dec.{eqb, leb}
 use borrow.Author.Tests.{leb-true, eqb-false, ne_eqb}
 use Rattle.views.proofs.Truth.{cases, contrary}
-use Rattle.rules.specs.Sets.{if◌then◌else◌}
 use Rattle.rules.specs.Messages as rules
 use Rattle.rules.specs.declared.Desk.{Desk}
 use Rattle.layout.specs.Image.{body_in}

@@ -1,8 +1,7 @@
 -- "who replied, best reply, whether all stamps agreed": a desk in which a reply with a stamp and a value is noted, for any sender. Assumes nothing.
-use Rattle.std.specs.Prelude.{ℕ, ltb}
+use Rattle.std.specs.Prelude.{ℕ, ltb, if◌then◌else◌}
 use Rattle.stamps.specs.declared.Pair.{Pair}
 use Rattle.rules.specs.declared.Desk.{Desk}
-use Rattle.rules.specs.Sets.{if◌then◌else◌}
 use Rattle.rules.specs.Desks.{notes_pair}
 
 -- the relays 0 to 7 are noted; of any other number nothing is, and the desk stays as it is

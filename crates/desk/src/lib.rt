@@ -1,8 +1,8 @@
 // Document 01, "Delivery at a desk", and READ and WRITE: what a desk answers to each thing that is put to it.
 #![tactic(auto)]
 
-ghost use Rattle.std.specs.Prelude.{◌≡◌, [], ◌<◌};
-ghost use Rattle.rules.specs.Sets.{if◌then◌else◌, inside};
+ghost use Rattle.std.specs.Prelude.{◌≡◌, [], ◌<◌, if◌then◌else◌};
+ghost use Rattle.rules.specs.Sets.{inside};
 ghost use Rattle.rules.specs.Messages.{Refusal, number, not_now, refused, does, quietly};
 ghost use Rattle.rules.specs.State.{no_desk};
 ghost use Rattle.rules.specs.Desks as rule;

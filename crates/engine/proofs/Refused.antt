@@ -1,4 +1,5 @@
 -- "All but 0 [..] change nothing": what is not done leaves every byte of what was lent. Assumes nothing.
+use Rattle.std.specs.Prelude.{if◌then◌else◌}
 use mathlib.Core.Path.{◌≡◌, refl}
 use mathlib.Core.List.{List, ◌++◌}
 use Prim.Native.Nat.{ℕ}
@@ -7,7 +8,6 @@ use lib.ListN.{length, drop}
 use borrow.Author.Tests.{ne_eqb}
 use Rattle.views.proofs.Truth.{cases}
 use Rattle.rows.specs.Bytes.{be32}
-use Rattle.rules.specs.Sets.{if◌then◌else◌}
 use Rattle.layout.specs.Layout.{world_width}
 use Rattle.layout.specs.Image.{world_at, good_bytes}
 use Rattle.rules.specs.Steps.{Outcome, refusal, done, stepped}

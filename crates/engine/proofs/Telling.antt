@@ -1,4 +1,5 @@
 -- What the exported functions leave in told, and that what refuses leaves every byte. Assumes nothing.
+use Rattle.std.specs.Prelude.{if◌then◌else◌}
 use mathlib.Core.Path.{◌≡◌, refl, sym, ◌∙◌}
 use mathlib.Core.Bool.{Bool, true, false}
 use mathlib.Core.List.{List, ◌++◌}
@@ -7,7 +8,6 @@ use lib.ListN.{length, get_or, drop}
 use borrow.Author.Tests.{lt-ltb, le-ltb, eq-eqb, ne_eqb}
 use Rattle.rows.specs.Bytes.{placed, bytes_of, be32, cat}
 use Rattle.rows.proofs.Numbers.{length-bytes_of}
-use Rattle.rules.specs.Sets.{if◌then◌else◌}
 use Rattle.layout.specs.Lent.{Lent, lent_step}
 use Rattle.rules.specs.Sheets.{is_bad_sheet, steps_of}
 use Rattle.sheet.specs.Reading.{check_of}

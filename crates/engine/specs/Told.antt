@@ -1,7 +1,6 @@
 -- What the exported functions answer and leave in the buffers lent to them. Assumes nothing.
-use Rattle.std.specs.Prelude.{List, [], ◌∷◌, ◌++◌, ℕ, eqb, ltb, length, get_or, drop}
+use Rattle.std.specs.Prelude.{List, [], ◌∷◌, ◌++◌, ℕ, eqb, ltb, length, get_or, drop, if◌then◌else◌}
 use Rattle.rows.specs.Bytes.{be16, be32, cat}
-use Rattle.rules.specs.Sets.{if◌then◌else◌}
 use Rattle.rules.specs.Messages.{bad_world, no_room, number}
 use Rattle.layout.specs.Image.{byte, good_bytes}
 use Rattle.rules.specs.Runs.{fields}

@@ -1,7 +1,7 @@
 -- "Proposal(v, q)" as a row holds it: of the new own sequence the first fifteen views. A good generator's has no more (proofs/Whole): there it is
 -- the rule itself. Assumes nothing.
-use Rattle.std.specs.Prelude.{List, [], ◌∷◌, ◌++◌, ℕ, take}
-use Rattle.rules.specs.Sets.{if◌then◌else◌, lacks}
+use Rattle.std.specs.Prelude.{List, [], ◌∷◌, ◌++◌, ℕ, take, if◌then◌else◌}
+use Rattle.rules.specs.Sets.{lacks}
 use Rattle.rules.specs.Messages.{Sending, proposal, to_members}
 use Rattle.rules.specs.State.{Generator}
 use Rattle.rules.specs.Generators.{Turn, with_own, hears, settles}

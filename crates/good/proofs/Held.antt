@@ -1,4 +1,5 @@
 -- Tests of each number below n, as tests of lists, and of bytes that stand in a buffer. Assumes nothing.
+use Rattle.std.specs.Prelude.{◌&&◌}
 use mathlib.Core.Path.{◌≡◌, refl, sym, ap, ◌∙◌}
 use mathlib.Core.Bool.{Bool, true, false, not, and-true, and_assoc}
 use mathlib.Core.List.{List, [], ◌∷◌, ◌++◌}
@@ -14,7 +15,6 @@ use Rattle.rows.specs.Tests.{all, all_zero}
 use Rattle.rows.proofs.All.{all_none, all_at, all_every}
 use Rattle.rows.proofs.Laws.{Holds, holds_self, holds-run, holds-byte, placed_fits, tab_get_d, length-tab}
 use Rattle.rows.proofs.Tables.{splice-whole, length-zeros}
-use Rattle.rules.specs.Sets.{◌&&◌}
 use Rattle.rules.specs.Sets as sets
 use Rattle.rules.specs.WellFormed.{all_from, distinct}
 use Rattle.good.specs.Rows.{held, differs}

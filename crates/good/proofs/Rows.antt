@@ -1,5 +1,6 @@
 -- A table of eight places that are filled from the lowest: its test by rows says that what is filled is good and that the table's bytes are those of what
 -- is filled. Of any row, enc its bytes, dec its reading. Assumes nothing.
+use Rattle.std.specs.Prelude.{◌&&◌, ◌||◌}
 use mathlib.Core.Path.{◌≡◌, refl, sym, ap, ◌∙◌}
 use mathlib.Core.Bool.{Bool, true, false, and-eq-true_iff, or-true}
 use mathlib.Core.List.{List, [], ◌∷◌}
@@ -17,7 +18,7 @@ use Rattle.rows.proofs.Laws.{Holds, run_inside, length-tab, get_d_tab, tab_get_d
 use Rattle.rows.proofs.Held.{run-held, zeros-held, zeros_pass}
 use Rattle.rows.proofs.Tables.{table-length, table-holds}
 use Rattle.views.proofs.Truth.{same_truth}
-use Rattle.rules.specs.Sets.{◌&&◌, ◌||◌, those, all, all_hold}
+use Rattle.rules.specs.Sets.{those, all, all_hold}
 use Rattle.rules.specs.WellFormed.{distinct}
 use Rattle.rules.proofs.Hold.{hold_facts, hold_tests}
 use Rattle.layout.specs.Layout.{generator_width}

@@ -1,4 +1,5 @@
 -- Conditions that are tested one after another: the first that fails answers, and the last one answers where all before it hold. Assumes nothing.
+use Rattle.std.specs.Prelude.{◌&&◌, ◌||◌}
 use mathlib.Core.Path.{◌≡◌, refl, sym, ◌∙◌}
 use mathlib.Core.Bool.{Bool, true, false, not, and-false, and-true}
 use mathlib.Core.List.{List, [], ◌∷◌}
@@ -10,7 +11,7 @@ use lib.Dec.{eqb, ltb}
 use lib.ListN.{length, get_or}
 use borrow.Author.Tests.{not-true, not-false, lt-ltb, ne_eqb}
 use Rattle.views.proofs.Truth.{contrary}
-use Rattle.rules.specs.Sets.{◌&&◌, ◌||◌, none, all, all_hold}
+use Rattle.rules.specs.Sets.{none, all, all_hold}
 use Rattle.rules.specs.Stamps.{Pair}
 use Rattle.rules.specs.WellFormed.{is_pair, distinct, good_generators, good_transfers}
 

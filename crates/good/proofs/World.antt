@@ -1,4 +1,5 @@
 -- The rows of a buffer are good exactly when the world that it means is well formed and the buffer is its image. Assumes nothing.
+use Rattle.std.specs.Prelude.{◌&&◌}
 use mathlib.Core.Path.{◌≡◌, refl, sym, ap, ◌∙◌}
 use mathlib.Core.Bool.{Bool, true, false, not, and-eq-true_iff, and-false, and-true, and_assoc}
 use mathlib.Core.List.{List, [], ◌∷◌, ◌++◌}
@@ -17,7 +18,7 @@ use Rattle.rows.proofs.Tables.{table-length, length-zeros}
 use Rattle.rows.proofs.Fields.{cat-holds}
 use Rattle.views.proofs.Truth.{same_truth}
 use Rattle.views.proofs.Among.{same_fact, same_self}
-use Rattle.rules.specs.Sets.{◌&&◌, same, those, member, all_hold}
+use Rattle.rules.specs.Sets.{same, those, member, all_hold}
 use Rattle.rules.specs.State.{Generator, Transfer, Relay, Place, World, no_relay, no_desk, free}
 use Rattle.rules.specs.declared.Desk.{Desk}
 use Rattle.rules.specs.Generators.{fresh}

@@ -1,8 +1,8 @@
 -- What the code tests of each row of a buffer: that what it means is good, and that its bytes are the bytes of that, so that unused room is zero.
 -- Assumes nothing.
-use Rattle.std.specs.Prelude.{Bool, true, false, List, [], ℕ, ◌+◌, ◌*◌, ◌-◌, eqb, length, get_or}
+use Rattle.std.specs.Prelude.{Bool, true, false, List, [], ℕ, ◌+◌, ◌*◌, ◌-◌, eqb, length, get_or, if◌then◌else◌, ◌&&◌, ◌||◌}
 use Rattle.rows.specs.Tests.{all, all_zero}
-use Rattle.rules.specs.Sets.{if◌then◌else◌, ◌&&◌, ◌||◌, relay_count, desk_count, place_count, seat_count}
+use Rattle.rules.specs.Sets.{relay_count, desk_count, place_count, seat_count}
 use Rattle.rules.specs.Messages.{Body}
 use Rattle.rules.specs.State.{Place, waiting}
 use Rattle.rules.specs.WellFormed.{good_generator, good_transfer, good_relay, good_desk, good_place, other_view, other_move}

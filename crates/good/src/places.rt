@@ -1,8 +1,8 @@
 // The 256 places of messages.
-ghost use Rattle.std.specs.Prelude.{◌≡◌, not, ◌+◌, ◌*◌, ◌≤◌, ◌<◌, eqb, ltb, length};
+ghost use Rattle.std.specs.Prelude.{◌≡◌, not, ◌+◌, ◌*◌, ◌≤◌, ◌<◌, eqb, ltb, length, ◌&&◌};
 ghost use Rattle.rows.specs.Tests.{all};
 ghost use Rattle.views.specs.Row.{views_of};
-ghost use Rattle.rules.specs.Sets.{◌&&◌, joins, leaves, member, within};
+ghost use Rattle.rules.specs.Sets.{joins, leaves, member, within};
 ghost use Rattle.rules.specs.Messages.{request, view, proposal, converged, install, state, get, put, view_reply, pair_reply, ack};
 ghost use Rattle.rules.specs.State.{waiting};
 ghost use Rattle.rules.specs.WellFormed.{is_desk, good_request, good_place};

@@ -1,7 +1,7 @@
 // A relay's eight transfers.
-ghost use Rattle.std.specs.Prelude.{◌≡◌, false, ◌+◌, ◌≤◌, length};
+ghost use Rattle.std.specs.Prelude.{◌≡◌, false, ◌+◌, ◌≤◌, length, ◌||◌};
 ghost use Rattle.views.specs.Row.{views_of};
-ghost use Rattle.rules.specs.Sets.{◌||◌, none};
+ghost use Rattle.rules.specs.Sets.{none};
 ghost use Rattle.rules.specs.WellFormed.{good_installed, good_transfer};
 ghost use Rattle.layout.specs.Layout.{transfer_width};
 ghost use Rattle.state.specs.Meaning.{transfer_of};

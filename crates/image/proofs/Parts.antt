@@ -1,4 +1,5 @@
 -- What the parts that the code reads and writes are of a relay and of a place. Assumes nothing.
+use Rattle.std.specs.Prelude.{if◌then◌else◌, ◌&&◌}
 use mathlib.Core.Path.{◌≡◌, refl, sym, ap, ◌∙◌}
 use mathlib.Core.List.{List, [], map}
 use Prim.Native.Nat.{ℕ, ◌+◌, ◌*◌, ◌≤◌}
@@ -8,7 +9,7 @@ use borrow.Author.Tests.{le-leb}
 use Rattle.rows.specs.Bytes.{tab}
 use Rattle.views.specs.declared.Sequence.{Sequence}
 use Rattle.views.specs.Row.{views_of}
-use Rattle.rules.specs.Sets.{if◌then◌else◌, ◌&&◌, those}
+use Rattle.rules.specs.Sets.{those}
 use Rattle.rules.specs.State.{Generator, Transfer, free, waiting}
 use Rattle.rules.specs.Messages as rules
 use Rattle.layout.specs.Layout.{generator_width, transfer_width, relay_generators, relay_transfers}

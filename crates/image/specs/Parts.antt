@@ -1,9 +1,9 @@
 -- What the code reads and writes at once and Image has no name for: eight notes, a relay without its tables, a message as the code holds it; and what it
 -- reads in its own rows, which have room for fifteen views. Assumes nothing.
-use Rattle.std.specs.Prelude.{List, [], ℕ, ◌+◌, ◌*◌, ltb, get_or}
+use Rattle.std.specs.Prelude.{List, [], ℕ, ◌+◌, ◌*◌, ltb, get_or, if◌then◌else◌}
 use Rattle.rows.specs.Bytes.{u16_at, tab, table}
 use Rattle.views.specs.declared.Sequence.{Sequence}
-use Rattle.rules.specs.Sets.{if◌then◌else◌, view_count, relay_count}
+use Rattle.rules.specs.Sets.{view_count, relay_count}
 use Rattle.layout.specs.Layout.{u16_width, sequence_count, sequence_width, head_entered, head_active, head_view, head_known, head_pending, head_holds, generator_own}
 use Rattle.layout.specs.Layout.{generator_converged, generator_raised, generator_proposals, generator_convergences, transfer_new, transfer_sequence}
 use Rattle.layout.specs.Layout.{transfer_senders, transfer_best, transfer_gathered, message_from, message_to, message_first, message_second, message_tries}

@@ -1,4 +1,5 @@
 -- What fits its room in the image, and that all of a good world does. Assumes nothing.
+use Rattle.std.specs.Prelude.{◌&&◌, ◌||◌}
 use mathlib.Core.Path.{◌≡◌, refl}
 use mathlib.Core.Logic.{◌≢◌, ⊎_elim}
 use mathlib.Core.Bool.{Bool, true, not, and-eq-true_iff}
@@ -12,7 +13,7 @@ use borrow.Author.Tests.{eqb-true, ltb-true, leb-true, ne_eqb}
 use Rattle.views.proofs.Truth.{either_true, contrary}
 use Rattle.views.proofs.Sets.{within_le, within_fact, inside_fact, inside_lt, members_lt, member_lt, member_not_empty}
 use Rattle.views.proofs.Nested.{Above, above_none, above_more, above_fact, above_fits}
-use Rattle.rules.specs.Sets.{◌&&◌, ◌||◌, member, members, within, above, none, all, all_hold}
+use Rattle.rules.specs.Sets.{member, members, within, above, none, all, all_hold}
 use Rattle.rules.specs.Stamps.{Pair, zero_pair}
 use Rattle.rules.specs.Messages.{Body, request, view, proposal, converged, install, state, get, put, view_reply, pair_reply, ack, Message}
 use Rattle.rules.specs.State.{Generator, Transfer, Relay, Place, free, waiting}

@@ -1,4 +1,5 @@
 -- What is written of a row is read back, wherever it stands. Assumes nothing.
+use Rattle.std.specs.Prelude.{if◌then◌else◌}
 use mathlib.Core.Path.{◌≡◌, refl, sym, ap, ◌∙◌}
 use mathlib.Core.Bool.{Bool, true, false}
 use mathlib.Core.List.{List, [], ◌∷◌, ◌++◌, append-nil}
@@ -14,7 +15,7 @@ use Rattle.rows.proofs.Laws.{Holds, holds-left, holds_right, holds-run, holds-by
 use Rattle.rows.proofs.Numbers.{length-bytes_of, holds_u16, holds_u32}
 use Rattle.rows.proofs.Fields.{cat-holds}
 use Rattle.rows.proofs.Tables.{table-holds, table_back}
-use Rattle.rules.specs.Sets.{if◌then◌else◌, those, view_count}
+use Rattle.rules.specs.Sets.{those, view_count}
 use Rattle.rules.specs.Stamps.{Pair}
 use Rattle.rules.specs.Messages.{Body, request, view, proposal, converged, install, state, get, put, view_reply, pair_reply, ack}
 use Rattle.rules.specs.State.{Generator, Transfer, Relay, Place, free, waiting}

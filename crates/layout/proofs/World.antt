@@ -1,5 +1,6 @@
 -- "One state has one image": a well-formed world is read back from its image, and good bytes are the image of the world that they mean.
 -- Assumes nothing.
+use Rattle.std.specs.Prelude.{◌&&◌}
 use mathlib.Core.Path.{◌≡◌, refl, sym, ap, ◌∙◌}
 use mathlib.Core.Bool.{true, and-eq-true_iff}
 use mathlib.Core.List.{List, []}
@@ -14,7 +15,7 @@ use Rattle.rows.specs.Bytes.{tab, sum, table}
 use Rattle.rows.proofs.Laws.{Holds, holds_self, tab_ext}
 use Rattle.rows.proofs.Fields.{cat-holds}
 use Rattle.rows.proofs.Tables.{table_back}
-use Rattle.rules.specs.Sets.{◌&&◌, same, all, all_hold}
+use Rattle.rules.specs.Sets.{same, all, all_hold}
 use Rattle.rules.specs.State.{no_relay, no_desk, free, World}
 use Rattle.rules.specs.WellFormed.{is_pair, distinct, good_generators, good_transfers, good_relay, good_phase, good_desk, good_place, well_formed}
 use Rattle.layout.specs.Layout.{relay_width, desk_width, message_width, world_desks, world_places, world_width, relay_begin, desk_begin, place_begin}

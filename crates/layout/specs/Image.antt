@@ -1,7 +1,7 @@
 -- A state in bytes, and what bytes mean: "One state has one image: unused room is zero." Where a field stands is Layout. Assumes nothing.
-use Rattle.std.specs.Prelude.{Bool, not, List, [], ◌∷◌, ◌++◌, ℕ, ◌+◌, ◌*◌, eqb, leb, length, get_or, take}
+use Rattle.std.specs.Prelude.{Bool, not, List, [], ◌∷◌, ◌++◌, ℕ, ◌+◌, ◌*◌, eqb, leb, length, get_or, take, if◌then◌else◌, ◌&&◌}
 use Rattle.rows.specs.Bytes.{be16, be32, u16_at, u32_at, run, tab, cat, table, zeros}
-use Rattle.rules.specs.Sets.{if◌then◌else◌, ◌&&◌, same, those, view_count, relay_count, desk_count, place_count, seat_count}
+use Rattle.rules.specs.Sets.{same, those, view_count, relay_count, desk_count, place_count, seat_count}
 use Rattle.rules.specs.Stamps.{Pair, zero_pair}
 use Rattle.rules.specs.Messages.{Body, request, view, proposal, converged, install, state, get, put, view_reply, pair_reply, ack}
 use Rattle.rules.specs.State.{Generator, Transfer, Relay, no_relay, no_desk, Place, free, waiting, World}

@@ -1,6 +1,5 @@
 -- What `start` and one step do to a lent buffer: the answer, and every byte of the buffer afterwards. Assumes nothing.
-use Rattle.std.specs.Prelude.{List, ℕ, eqb, leb, length}
-use Rattle.rules.specs.Sets.{if◌then◌else◌}
+use Rattle.std.specs.Prelude.{List, ℕ, eqb, leb, length, if◌then◌else◌}
 use Rattle.rules.specs.Messages.{Refusal, bad_world, bad_step, number}
 use Rattle.rules.specs.State.{start}
 use Rattle.rules.specs.declared.Step.{Step}

@@ -1,4 +1,5 @@
 -- A relay or a desk sends no more in a step than a plan has room for: what goes out is the copies of what the plan says. Assumes nothing.
+use Rattle.std.specs.Prelude.{if◌then◌else◌}
 use mathlib.Core.Path.{◌≡◌, refl, ap}
 use mathlib.Core.Bool.{◌&&◌}
 use mathlib.Core.List.{List, [], ◌∷◌, ◌++◌}
@@ -8,7 +9,7 @@ use native.Mathlib.Omega.{arith}
 use lib.Dec.{eqb, lit≤}
 use lib.ListN.{length}
 use Rattle.views.proofs.Truth.{cases}
-use Rattle.rules.specs.Sets.{if◌then◌else◌, those, inside, reaches}
+use Rattle.rules.specs.Sets.{those, inside, reaches}
 use Rattle.rules.specs.Stamps.{Pair}
 use Rattle.rules.specs.Messages.{Body, request, view, proposal, converged, install, state, get, put, view_reply, pair_reply, ack, Sending, Message, copies, outgoing, Event, Refusal, Answer, refused, does}
 use Rattle.rules.specs.State.{Relay}

@@ -1,5 +1,6 @@
 -- The part of a good relay is fitting for a good message, and a row cuts nothing off there: what the code answers at it is the rule's answer.
 -- Assumes nothing.
+use Rattle.std.specs.Prelude.{◌&&◌}
 use mathlib.Core.Path.{◌≡◌, refl}
 use mathlib.Core.Bool.{true, and-eq-true_iff}
 use mathlib.Core.List.{List}
@@ -8,7 +9,7 @@ use native.Mathlib.Omega.{arith}
 use lib.Dec.{eqb, leb, ltb}
 use borrow.Author.Tests.{ltb-true, lt-ltb}
 use Rattle.views.proofs.Sets.{member_lt}
-use Rattle.rules.specs.Sets.{◌&&◌, member, above, all}
+use Rattle.rules.specs.Sets.{member, above, all}
 use Rattle.rules.specs.Messages.{Body, request, view, proposal, converged, install, state, get, put, view_reply, pair_reply, ack, Message}
 use Rattle.rules.specs.State.{Relay}
 use Rattle.rules.specs.Generators.{generator_for, proposal_heard}

@@ -1,4 +1,5 @@
 -- The seat of a key in a table: the place of its element, or the end where there is none. What is put back is written at its seat. Assumes nothing.
+use Rattle.std.specs.Prelude.{if◌then◌else◌}
 use mathlib.Core.Path.{◌≡◌, refl, ap, ◌∙◌}
 use mathlib.Core.Logic.{◌⊎◌, inl, inr, ⊎_elim}
 use mathlib.Core.Bool.{Bool, true, false}
@@ -10,7 +11,7 @@ use lib.Dec.{leb, ltb}
 use lib.ListN.{length, get_or, set, length-set, length-append}
 use borrow.Author.Tests.{ltb-true, ltb-false, lt-ltb, le-leb}
 use Rattle.views.proofs.Truth.{decided}
-use Rattle.rules.specs.Sets.{if◌then◌else◌, those}
+use Rattle.rules.specs.Sets.{those}
 use Rattle.rules.specs.WellFormed.{distinct}
 use Rattle.rules.proofs.Hold.{distinct_parts}
 use Rattle.rows.proofs.Change.{Changed, changed_set, changed_add}

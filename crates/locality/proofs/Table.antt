@@ -1,5 +1,6 @@
 -- A table: a list that is searched by a key, and in which an element is put back at its key or at the end. What is found in, and put back into, the part
 -- that shows one key is what is found in, and put back into, the whole. The generators of a relay are a table, and its transfers. Assumes nothing.
+use Rattle.std.specs.Prelude.{if◌then◌else◌}
 use mathlib.Core.Path.{◌≡◌, refl, sym, ap, ◌∙◌}
 use mathlib.Core.Logic.{⊎_elim}
 use mathlib.Core.Bool.{Bool, true, false, and-eq-true_iff}
@@ -9,7 +10,7 @@ use lib.Dec.{eqb}
 use borrow.Author.Tests.{eqb-true, eq-eqb}
 use Rattle.views.proofs.Sets.{inside_self}
 use Rattle.views.proofs.Truth.{decided, contrary, never_true}
-use Rattle.rules.specs.Sets.{if◌then◌else◌, inside, those, all}
+use Rattle.rules.specs.Sets.{inside, those, all}
 use Rattle.rules.specs.State.{Generator, Transfer}
 use Rattle.rules.specs.Generators.{generator_for, put_generator}
 use Rattle.rules.specs.Relays.{is_for, transfer_for, put_transfer}

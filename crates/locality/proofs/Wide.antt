@@ -1,5 +1,6 @@
 -- THE LOCALITY LAW: what a relay does is what its part does that shows the message's generator and transfer, done to the whole. It holds of every relay,
 -- good or not. Assumes nothing.
+use Rattle.std.specs.Prelude.{if◌then◌else◌}
 use mathlib.Core.Path.{◌≡◌, refl, sym, ap, ◌∙◌}
 use mathlib.Core.Bool.{Bool, true, false, not, ◌&&◌, ◌||◌, and-eq-true_iff}
 use mathlib.Core.List.{List, []}
@@ -8,7 +9,7 @@ use native.Mathlib.Omega.{arith}
 use lib.Dec.{eqb}
 use borrow.Author.Tests.{eq-eqb, ne_eqb}
 use Rattle.views.proofs.Sets.{inside_lt, inside_fact}
-use Rattle.rules.specs.Sets.{if◌then◌else◌, those, member, within, inside, none, joins, joined}
+use Rattle.rules.specs.Sets.{those, member, within, inside, none, joins, joined}
 use Rattle.rules.specs.Stamps.{Pair, greatest}
 use Rattle.rules.specs.Messages.{Body, request, view, proposal, converged, install, state, get, put, view_reply, pair_reply, ack, Sending, Event, nothing, Refusal, Answer, refused, does}
 use Rattle.rules.specs.State.{Generator, Transfer, Relay, with_known, with_pending, with_active, with_holds, with_generators, with_transfers}

@@ -1,6 +1,5 @@
 -- What a step asks of a relay or a desk, and how much an answer sends at the most. Assumes nothing.
-use Rattle.std.specs.Prelude.{ℕ, ◌≤◌, eqb, length}
-use Rattle.rules.specs.Sets.{if◌then◌else◌}
+use Rattle.std.specs.Prelude.{ℕ, ◌≤◌, eqb, length, if◌then◌else◌}
 use Rattle.rules.specs.Messages.{Answer, refused, does}
 use Rattle.rules.specs.State.{Relay}
 use Rattle.rules.specs.declared.Desk.{Desk}

@@ -1,6 +1,6 @@
 -- A rule at a relay sees its head, one generator and one transfer. What the rule does to that part is done to the whole relay. Assumes nothing.
-use Rattle.std.specs.Prelude.{List, [], ◌∷◌, ℕ, eqb}
-use Rattle.rules.specs.Sets.{if◌then◌else◌, inside, those}
+use Rattle.std.specs.Prelude.{List, [], ◌∷◌, ℕ, eqb, if◌then◌else◌}
+use Rattle.rules.specs.Sets.{inside, those}
 use Rattle.rules.specs.Messages.{Body, request, view, proposal, converged, install, state, get, put, view_reply, pair_reply, ack, Answer, refused, does}
 use Rattle.rules.specs.State.{Generator, Transfer, Relay}
 use Rattle.rules.specs.Generators.{put_generator}

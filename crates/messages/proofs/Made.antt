@@ -1,4 +1,5 @@
 -- What the builders' bodies and sendings mean: a body that is made of a rule's words says them. Assumes nothing.
+use Rattle.std.specs.Prelude.{if◌then◌else◌}
 use mathlib.Core.Path.{◌≡◌, refl, sym, ap, ◌∙◌}
 use mathlib.Core.List.{[]}
 use Prim.Native.Nat.{ℕ}
@@ -7,7 +8,6 @@ use Rattle.views.specs.declared.Sequence.{Sequence}
 use Rattle.views.specs.Row.{views_of, row_of}
 use Rattle.views.proofs.Rows.{held}
 use Rattle.views.proofs.Truth.{cases}
-use Rattle.rules.specs.Sets.{if◌then◌else◌}
 use Rattle.rules.specs.Messages as rules
 use Rattle.layout.specs.Image.{body_row, body_in}
 use Rattle.layout.proofs.Rows.{addressed, row_of_lem}

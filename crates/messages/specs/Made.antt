@@ -1,8 +1,8 @@
 -- The bodies and sendings that the builders make, field by field. Assumes nothing.
-use Rattle.std.specs.Prelude.{List, [], ℕ, leb, ltb}
+use Rattle.std.specs.Prelude.{List, [], ℕ, leb, ltb, if◌then◌else◌, ◌&&◌}
 use Rattle.views.specs.Row.{row_of}
 use Rattle.views.specs.declared.Sequence.{Sequence}
-use Rattle.rules.specs.Sets.{if◌then◌else◌, ◌&&◌, only}
+use Rattle.rules.specs.Sets.{only}
 use Rattle.rules.specs.Stamps.{zero_pair}
 use Rattle.rules.specs.Messages as rules
 use Rattle.layout.specs.Layout.{proposal_kind, install_kind}

@@ -1,4 +1,5 @@
 -- What a step delivers and drops: one, where it is accepted and is a DELIVER, or a DROP. Assumes nothing.
+use Rattle.std.specs.Prelude.{if◌then◌else◌}
 use mathlib.Core.Path.{◌≡◌, refl}
 use mathlib.Core.Bool.{Bool, true, false, ◌&&◌, and-eq-true_iff}
 use Prim.Native.Nat.{ℕ, ◌+◌, ◌-◌}
@@ -6,7 +7,6 @@ use lib.Dec.{eqb, leb, ltb}
 use lib.ListN.{length}
 use borrow.Author.Tests.{eqb-true}
 use Rattle.views.proofs.Truth.{cases}
-use Rattle.rules.specs.Sets.{if◌then◌else◌}
 use Rattle.rules.specs.Messages.{Refusal, bad_world, bad_step, empty, dead, not_now, not_yet, worn, no_room, outgoing, refused, does}
 use Rattle.rules.specs.Messages as messages
 use Rattle.rules.specs.State.{Relay, Place, free, waiting, World, place_at}

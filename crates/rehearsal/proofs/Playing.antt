@@ -1,4 +1,5 @@
 -- A record, line by line: what the lines and the counts are after each of a trace's rows, and at the end. Assumes nothing.
+use Rattle.std.specs.Prelude.{if◌then◌else◌}
 use mathlib.Core.Path.{◌≡◌, refl, sym, ap, ◌∙◌}
 use mathlib.Core.Bool.{Bool, true, false, ◌&&◌}
 use mathlib.Core.List.{List, [], ◌∷◌, ◌++◌, append_assoc}
@@ -11,7 +12,6 @@ use mir.Val.{bool_byte}
 use borrow.Author.Tests.{eq-eqb, lt-ltb, le-ltb}
 use Rattle.rows.specs.Bytes.{u16_at, u32_at}
 use Rattle.rows.proofs.Laws.{Holds, holds-left, holds_right}
-use Rattle.rules.specs.Sets.{if◌then◌else◌}
 use Rattle.views.proofs.Truth.{cases}
 use Rattle.rules.specs.State.{World, start}
 use Rattle.rules.specs.declared.Step.{Step}

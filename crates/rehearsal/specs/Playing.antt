@@ -1,6 +1,5 @@
 -- What a rehearsal leaves in the lent buffers: of one step, of all steps, and of a whole sheet. Assumes nothing.
-use Rattle.std.specs.Prelude.{◌≡◌, ◌&&◌, List, [], ◌∷◌, ◌++◌, ℕ, ◌+◌, eqb, ltb, length, get_or, drop}
-use Rattle.rules.specs.Sets.{if◌then◌else◌}
+use Rattle.std.specs.Prelude.{◌≡◌, ◌&&◌, List, [], ◌∷◌, ◌++◌, ℕ, ◌+◌, eqb, ltb, length, get_or, drop, if◌then◌else◌}
 use Rattle.rules.specs.State.{World}
 use Rattle.rules.specs.declared.Step.{Step}
 use Rattle.rules.specs.Steps.{DELIVER, DROP}

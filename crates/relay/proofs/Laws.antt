@@ -1,4 +1,5 @@
 -- Laws of what a part shows, and of the rules at it. Assumes nothing.
+use Rattle.std.specs.Prelude.{if◌then◌else◌}
 use mathlib.Core.Path.{◌≡◌, refl, sym, ap, ◌∙◌}
 use mathlib.Core.Bool.{Bool, true, false, ◌&&◌, and-true}
 use mathlib.Core.List.{List, [], ◌∷◌}
@@ -10,7 +11,6 @@ use lib.ListN.{length}
 use lib.Pow.{shl_exact, pow-add}
 use lib.Seq.{take_all}
 use Rattle.views.specs.declared.Sequence.{Sequence}
-use Rattle.views.specs.Choice.{if◌then◌else◌}
 use Rattle.views.specs.Row.{views_of, row_of}
 use Rattle.views.proofs.Truth.{cases, contrary}
 use Rattle.views.proofs.Rows.{views_length, held}

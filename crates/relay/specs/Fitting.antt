@@ -1,7 +1,7 @@
 -- The rules at a relay, for any part and any message: what a part must show for the rule to be told by it, and the answer where it does not.
 -- (In a good world every part that the world's step shows is fitting: locality/proofs/Fits.) Assumes nothing.
-use Rattle.std.specs.Prelude.{Bool, true, ℕ, eqb, ltb}
-use Rattle.rules.specs.Sets.{if◌then◌else◌, ◌&&◌, all}
+use Rattle.std.specs.Prelude.{Bool, true, ℕ, eqb, ltb, if◌then◌else◌, ◌&&◌}
+use Rattle.rules.specs.Sets.{all}
 use Rattle.rules.specs.Messages.{Body, request, view, proposal, converged, install, state, get, put, view_reply, pair_reply, ack, bad_step, Answer, refused}
 use Rattle.rules.specs.State.{Relay}
 use Rattle.rules.specs.Generators.{generator_for}

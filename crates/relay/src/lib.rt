@@ -1,8 +1,7 @@
 // Document 01, "Delivery at a relay", and JOIN, LEAVE, TIMER: what a relay answers to each thing that is put to it.
 #![tactic(auto)]
 
-ghost use Rattle.std.specs.Prelude.{◌≡◌, true, ◌&&◌, [], ◌∷◌, ◌<◌, ltb};
-ghost use Rattle.views.specs.Choice.{if◌then◌else◌};
+ghost use Rattle.std.specs.Prelude.{◌≡◌, true, ◌&&◌, [], ◌∷◌, ◌<◌, ltb, if◌then◌else◌};
 ghost use Rattle.views.specs.Row.{views_of};
 ghost use Rattle.rules.specs.State.{no_relay, with_transfers};
 ghost use Rattle.rules.specs.Generators.{generator_for, converged_heard};

@@ -1,7 +1,7 @@
 // Transfers, and a part's head as it goes from view to view.
-ghost use Rattle.std.specs.Prelude.{◌≡◌, [], ◌∷◌};
+ghost use Rattle.std.specs.Prelude.{◌≡◌, [], ◌∷◌, if◌then◌else◌};
 ghost use Rattle.views.specs.Row.{views_of};
-ghost use Rattle.rules.specs.Sets.{if◌then◌else◌, inside};
+ghost use Rattle.rules.specs.Sets.{inside};
 ghost use Rattle.rules.specs.Sets as sets;
 ghost use Rattle.rules.specs.State.{with_transfers};
 ghost use Rattle.rules.specs.Relays as rules;

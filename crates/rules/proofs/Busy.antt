@@ -1,5 +1,6 @@
 -- "A desk never gives up an operation.": a desk that is not idle is not idle after any step, unless that step reports that its read or its write ended.
 -- Assumes nothing.
+use Rattle.std.specs.Prelude.{◌&&◌}
 use mathlib.Core.Path.{◌≡◌, refl, sym, ◌∙◌}
 use mathlib.Core.Logic.{◌⊎◌, inl, inr}
 use mathlib.Core.Bool.{Bool, true, false}
@@ -11,7 +12,7 @@ use lib.ListN.{length, get_or, set}
 use lib.Seq.{get_or-set_same, get_or-set_other}
 use borrow.Author.Tests.{eqb-true, eqb-false}
 use Rattle.views.proofs.Truth.{contrary, cases}
-use Rattle.rules.specs.Sets.{◌&&◌, reaches, inside}
+use Rattle.rules.specs.Sets.{reaches, inside}
 use Rattle.rules.specs.Stamps.{Pair}
 use Rattle.rules.specs.Messages.{Body, request, view, proposal, converged, install, state, get, put, view_reply, pair_reply, ack, Message, outgoing, Event, nothing, opened, read_done, write_done, Answer, refused, does}
 use Rattle.rules.specs.State.{Desk, Phase, Idle, Read1, Read2, Write1, Write2, Relay, Place, free, waiting, World, crashed_desk, no_desk, desk_at, place_at, with_desk, with_places}

@@ -1,4 +1,5 @@
 -- "sent is the sum of the others"; a step delivers or drops no more than one message. Assumes nothing.
+use Rattle.std.specs.Prelude.{◌&&◌}
 use mathlib.Core.Path.{◌≡◌, refl, ap}
 use mathlib.Core.Bool.{true, and-eq-true_iff}
 use mathlib.Core.List.{List, [], ◌∷◌}
@@ -8,7 +9,6 @@ use lib.Dec.{leb, ltb}
 use lib.ListN.{length, get_or, set, replicate}
 use borrow.Author.Tests.{leb-true}
 use Rattle.views.proofs.Truth.{cases}
-use Rattle.rules.specs.Sets.{◌&&◌}
 use Rattle.rules.specs.Messages.{Message, outgoing, Refusal, dead, no_room, Answer, refused, does}
 use Rattle.rules.specs.State.{Desk, Relay, Place, free, waiting, World, place_at, start}
 use Rattle.rules.specs.Sending.{place, place_all, free_in, waiting_in}

@@ -1,4 +1,5 @@
 -- The rules at a desk keep it good, and send well. Assumes nothing.
+use Rattle.std.specs.Prelude.{◌&&◌}
 use mathlib.Core.Path.{◌≡◌, refl, ap, ◌∙◌}
 use mathlib.Core.Bool.{Bool, true, false, not, and-eq-true_iff}
 use mathlib.Core.List.{List, [], ◌∷◌}
@@ -10,7 +11,7 @@ use lib.Pow.{pow_pos}
 use borrow.Author.Tests.{ltb-true, leb-false, eqb-true, lt-ltb, le-leb, eq-eqb, ne_eqb}
 use Rattle.views.proofs.Sets.{within_le, within_or_right, member_bit}
 use Rattle.views.proofs.Truth.{contrary, true_left, cases}
-use Rattle.rules.specs.Sets.{◌&&◌, members, within, member, reaches, inside, joins, joined}
+use Rattle.rules.specs.Sets.{members, within, member, reaches, inside, joins, joined}
 use Rattle.rules.specs.Stamps.{Pair, zero_pair}
 use Rattle.rules.specs.Messages.{Body, request, view, proposal, converged, install, state, get, put, view_reply, pair_reply, ack, Message, Sending, to_members, Event, nothing, read_done, write_done, Refusal, Answer, refused, does}
 use Rattle.rules.specs.State.{Desk, Phase, Idle, Read1, Read2, Write1, Write2}

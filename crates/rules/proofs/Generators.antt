@@ -1,4 +1,5 @@
 -- The rules at a generator keep it good, leave its view, and send well and little. Assumes nothing.
+use Rattle.std.specs.Prelude.{◌&&◌}
 use mathlib.Core.Path.{◌≡◌, refl, sym, ap, ◌∙◌}
 use mathlib.Core.Logic.{⊎_elim}
 use mathlib.Core.Bool.{true, false, not, and-eq-true_iff}
@@ -14,7 +15,7 @@ use Rattle.views.proofs.Merge.{above_heard, heard_contains}
 use Rattle.views.proofs.Nested.{above_fact, above_test, above_first, above_small}
 use Rattle.views.proofs.Sets.{inside_test, member_bit}
 use Rattle.views.proofs.Truth.{contrary, either_true, true_left, true_right, cases}
-use Rattle.rules.specs.Sets.{◌&&◌, bit, members, member, lacks, conflict, least, most, some, same, plus, unite, heard, above, joined, none, all, all_hold}
+use Rattle.rules.specs.Sets.{bit, members, member, lacks, conflict, least, most, some, same, plus, unite, heard, above, joined, none, all, all_hold}
 use Rattle.rules.specs.Messages.{Sending, proposal, converged, install, to_members, to_both}
 use Rattle.rules.specs.State.{Generator}
 use Rattle.rules.specs.Generators.{fresh, generator_for, Turn, with_own, proposes, agree, hears, settles, proposal_heard, notes_converged, raises, converged_heard}

@@ -1,4 +1,5 @@
 -- Conditions that all hold, and tests over lists. Assumes nothing.
+use Rattle.std.specs.Prelude.{if◌then◌else◌, ◌&&◌}
 use mathlib.Core.Path.{◌≡◌, refl}
 use mathlib.Core.Bool.{Bool, true, false, not, and-eq-true_iff}
 use mathlib.Core.List.{List, [], ◌∷◌, ◌++◌}
@@ -6,7 +7,7 @@ use Prim.Native.Nat.{ℕ, zero, suc, ◌+◌}
 use native.Mathlib.Omega.{arith}
 use lib.ListN.{length, get_or, set}
 use Rattle.views.proofs.Truth.{cases}
-use Rattle.rules.specs.Sets.{◌&&◌, if◌then◌else◌, all_hold, all, those}
+use Rattle.rules.specs.Sets.{all_hold, all, those}
 use Rattle.rules.specs.Generators.{one_if}
 use Rattle.rules.specs.WellFormed.{all_from, distinct}
 

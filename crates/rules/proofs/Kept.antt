@@ -1,4 +1,5 @@
 -- EVERY ACCEPTED STEP FROM A GOOD WORLD GIVES A GOOD ONE; and what a step from a good world reports is in range. Assumes nothing.
+use Rattle.std.specs.Prelude.{◌&&◌}
 use mathlib.Core.Path.{◌≡◌, refl, ap, ◌∙◌}
 use mathlib.Core.Logic.{⊎_elim}
 use mathlib.Core.Bool.{Bool, true, false, and-eq-true_iff}
@@ -10,7 +11,7 @@ use lib.ListN.{length, length-set}
 use borrow.Author.Tests.{ltb-true, ltb-false, eqb-true, lt-ltb, eq-eqb}
 use Rattle.views.proofs.Sets.{member_lt}
 use Rattle.views.proofs.Truth.{contrary, either_true, cases}
-use Rattle.rules.specs.Sets.{◌&&◌, those, bit, member, all, all_hold}
+use Rattle.rules.specs.Sets.{those, bit, member, all, all_hold}
 use Rattle.rules.specs.Messages.{Body, request, view, proposal, converged, install, state, get, put, view_reply, pair_reply, ack, Message, Sending, copies, outgoing, Event, nothing, opened, read_done, write_done, Refusal, dead, no_room, Answer, refused, does}
 use Rattle.rules.specs.State.{Desk, Phase, Idle, Read1, Read2, Write1, Write2, Relay, Place, free, waiting, World, crashed_relay, crashed_desk, no_relay, no_desk, relay_at, desk_at, place_at, with_relay, with_desk, with_places, start}
 use Rattle.rules.specs.Sending.{place, place_all}

@@ -1,5 +1,6 @@
 -- Lists and tests as the proofs of the code meet them: a mapped list of which one element is set, what passes of a list, whether it is empty, a test as a byte.
 -- Assumes nothing.
+use Rattle.std.specs.Prelude.{if◌then◌else◌}
 use mathlib.Core.Path.{◌≡◌, refl, ap}
 use mathlib.Core.Bool.{Bool, true, false}
 use mathlib.Core.List.{List, [], ◌∷◌, ◌++◌, map}
@@ -9,7 +10,7 @@ use lib.Dec.{lit≤}
 use lib.ListN.{length, set}
 use mir.Val.{bool_byte}
 use Rattle.views.proofs.Truth.{cases}
-use Rattle.rules.specs.Sets.{if◌then◌else◌, those, none}
+use Rattle.rules.specs.Sets.{those, none}
 
 pub map-set : {A B : Type 0} (f : A → B) (l : List A) (i : ℕ) (x : A) → map f (set l i x) ≡ set (map f l) i (f x)
 map-set f [] i x = refl

@@ -1,5 +1,6 @@
 -- "What students will try", the three that are about these rules: each is ruled out. (The others are about views and stamps.) And what document 01 says though
 -- demand 3 does not need it. Assumes nothing.
+use Rattle.std.specs.Prelude.{if◌then◌else◌, ◌&&◌, ◌||◌}
 use mathlib.Core.Path.{◌≡◌, refl, sym, ap}
 use mathlib.Core.Logic.{◌≢◌}
 use mathlib.Core.Bool.{true, false, not, and-eq-true_iff, and-false}
@@ -12,7 +13,7 @@ use lib.Seq.{get_or-set_same}
 use borrow.Author.Tests.{eqb-true, not-true, not-false, ne_eqb}
 use Rattle.views.proofs.Sets.{inside_lt, inside_fact}
 use Rattle.views.proofs.Truth.{never_true, cases}
-use Rattle.rules.specs.Sets.{◌&&◌, ◌||◌, if◌then◌else◌, member, inside, same, least, lacks, heard}
+use Rattle.rules.specs.Sets.{member, inside, same, least, lacks, heard}
 use Rattle.rules.specs.Stamps.{Pair}
 use Rattle.rules.specs.Messages.{proposal, install, view_reply, pair_reply, ack, to_members, to_both, not_yet, refused, quietly}
 use Rattle.rules.specs.State.{Desk, Generator, Transfer, Relay}

@@ -1,5 +1,6 @@
 -- "Checked in this order, the first that applies": the table of answers (specs/Table) as one equation, over any well-formed world and any step. Assumes
 -- nothing.
+use Rattle.std.specs.Prelude.{if◌then◌else◌, ◌&&◌, ◌||◌}
 use mathlib.Core.Path.{◌≡◌, refl, ap, ◌∙◌}
 use mathlib.Core.Bool.{Bool, true, false, not}
 use mathlib.Core.List.{List, [], ◌∷◌}
@@ -9,7 +10,7 @@ use lib.Dec.{eqb, leb, ltb, lit<}
 use lib.ListN.{length}
 use borrow.Author.Tests.{leb-true, le-ltb, ne_eqb}
 use Rattle.views.proofs.Truth.{cases}
-use Rattle.rules.specs.Sets.{◌&&◌, ◌||◌, if◌then◌else◌, within, member, reaches, inside, joins, none}
+use Rattle.rules.specs.Sets.{within, member, reaches, inside, joins, none}
 use Rattle.rules.specs.Stamps.{Pair}
 use Rattle.rules.specs.Messages.{Body, request, view, proposal, converged, install, state, get, put, view_reply, pair_reply, ack, Message, Sending, outgoing, Event, bad_world, bad_step, empty, dead, not_now, not_yet, worn, no_room, number, Answer, refused, does, sends, to_members}
 use Rattle.rules.specs.State.{Desk, Phase, Idle, Read1, Read2, Write1, Write2, Transfer, Relay, Place, free, waiting, World, relay_at, desk_at, place_at}

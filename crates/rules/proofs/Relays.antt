@@ -1,4 +1,5 @@
 -- The rules at a relay keep it good, and send well. Assumes nothing.
+use Rattle.std.specs.Prelude.{◌&&◌}
 use mathlib.Core.Path.{◌≡◌, refl, ap}
 use mathlib.Core.Bool.{Bool, true, false, not}
 use mathlib.Core.List.{List}
@@ -6,7 +7,7 @@ use Prim.Native.Nat.{ℕ, ◌<◌}
 use lib.Dec.{eqb, leb}
 use lib.ListN.{length}
 use borrow.Author.Tests.{ltb-true, eqb-true, lt-ltb}
-use Rattle.rules.specs.Sets.{◌&&◌, member, above, none, all}
+use Rattle.rules.specs.Sets.{member, above, none, all}
 use Rattle.rules.specs.Messages.{Sending, Event, nothing, Refusal, Answer, refused, does}
 use Rattle.rules.specs.State.{Generator, Transfer, Relay, with_generators}
 use Rattle.rules.specs.Generators.{generator_for, put_generator, Turn, proposes, proposal_heard, converged_heard}

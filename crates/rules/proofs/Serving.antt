@@ -1,4 +1,5 @@
 -- JOIN, LEAVE, TIMER, Request, View, Get, Put keep a relay good, and send well; so does whatever a relay hears. Assumes nothing.
+use Rattle.std.specs.Prelude.{◌&&◌, ◌||◌}
 use mathlib.Core.Path.{◌≡◌, refl, ap, ◌∙◌}
 use mathlib.Core.Bool.{true, not, and-eq-true_iff}
 use mathlib.Core.Logic.{⊎_elim}
@@ -12,7 +13,7 @@ use borrow.Author.Tests.{ltb-true, eqb-true, not-true, not-false, lt-ltb, eq-eqb
 use Rattle.views.proofs.Nested.{above_test, above_none, above_more}
 use Rattle.views.proofs.Sets.{inside_or, within_test, member_bit}
 use Rattle.views.proofs.Truth.{contrary, true_left, true_right, either_true, neither_true, cases}
-use Rattle.rules.specs.Sets.{◌&&◌, ◌||◌, bit, within, member, inside, joins, leaves, joined}
+use Rattle.rules.specs.Sets.{bit, within, member, inside, joins, leaves, joined}
 use Rattle.rules.specs.Stamps.{Pair}
 use Rattle.rules.specs.Messages.{Body, request, view, proposal, converged, install, state, get, put, view_reply, pair_reply, ack, Message, to_members, to_one}
 use Rattle.rules.specs.State.{Relay, with_known, with_pending, with_holds}

@@ -1,4 +1,5 @@
 -- Sheets: what is written is read back, and what is read is written again, in any form that its version tells. Assumes nothing.
+use Rattle.std.specs.Prelude.{◌&&◌, ◌||◌}
 use mathlib.Core.Path.{◌≡◌, refl, sym, ap, ◌∙◌}
 use mathlib.Core.Bool.{Bool, true, false, not, and-eq-true_iff}
 use mathlib.Core.List.{List, [], ◌∷◌, ◌++◌, append_assoc}
@@ -10,7 +11,6 @@ use lib.ListN.{length, get_or, take, drop, length-append, length-drop, take-appe
 use lib.Seq.{drop_at, get_or-drop, length-take-le}
 use borrow.Author.Tests.{eqb-true, eqb-false, ltb-false, not-false, le-ltb, eq-eqb, ne_eqb}
 use Rattle.views.proofs.Truth.{neither_true}
-use Rattle.rules.specs.Sets.{◌&&◌, ◌||◌}
 use Rattle.rules.specs.Steps.{Step}
 use Rattle.rows.specs.Bytes.{bytes_of, be16, zeros}
 use Rattle.rows.proofs.Laws.{Holds, holds_same}

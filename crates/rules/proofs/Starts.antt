@@ -1,4 +1,5 @@
 -- A start is well formed. Assumes nothing.
+use Rattle.std.specs.Prelude.{◌||◌}
 use mathlib.Core.Path.{◌≡◌, refl}
 use mathlib.Core.Logic.{⊎_elim}
 use mathlib.Core.Bool.{true}
@@ -9,7 +10,7 @@ use borrow.Author.Tests.{eqb-true}
 use Rattle.views.proofs.Truth.{either_true}
 use Rattle.rows.specs.Tests as tests
 use Rattle.rows.proofs.All.{all_at}
-use Rattle.rules.specs.Sets.{◌||◌, member, inside, some, above, all, all_hold}
+use Rattle.rules.specs.Sets.{member, inside, some, above, all, all_hold}
 use Rattle.rules.specs.State.{start_relay, start_desk, start}
 use Rattle.rules.specs.WellFormed.{is_pair, all_from, distinct, good_generators, good_transfers, good_relay, good_phase, good_desk, good_place, well_formed}
 

@@ -1,6 +1,7 @@
 -- What a rule leaves of a relay's generators and transfers fits into eight places of each exactly where as many as it takes were free at its begin
 -- (specs/Table):
 -- a transfer just taken never passes the entry test (Rooms), so no rule both takes and frees. Assumes nothing.
+use Rattle.std.specs.Prelude.{if◌then◌else◌, ◌&&◌, ◌||◌}
 use mathlib.Core.Path.{◌≡◌, refl, sym, ap, subst, ◌∙◌}
 use mathlib.Core.Bool.{Bool, true, false, not}
 use mathlib.Core.List.{List, [], ◌∷◌}
@@ -10,7 +11,7 @@ use lib.Dec.{eqb, leb}
 use lib.ListN.{length}
 use borrow.Author.Tests.{leb-true, le-leb, not-true}
 use Rattle.views.proofs.Truth.{contrary, never_true, same_truth, cases}
-use Rattle.rules.specs.Sets.{◌&&◌, ◌||◌, if◌then◌else◌, within, member, inside, joins, none, all, those}
+use Rattle.rules.specs.Sets.{within, member, inside, joins, none, all, those}
 use Rattle.rules.specs.Stamps.{Pair}
 use Rattle.rules.specs.Messages.{Body, request, view, proposal, converged, install, state, get, put, view_reply, pair_reply, ack, Sending, opened, Answer, refused, does, quietly}
 use Rattle.rules.specs.State.{Generator, Transfer, Relay, with_known, with_pending, with_active, with_holds, with_generators, with_transfers}

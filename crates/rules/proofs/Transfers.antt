@@ -1,4 +1,5 @@
 -- Transfers, the entry test, Install and State keep a relay good, and send well. Assumes nothing.
+use Rattle.std.specs.Prelude.{◌&&◌, ◌||◌}
 use mathlib.Core.Path.{◌≡◌, refl, ap, ◌∙◌}
 use mathlib.Core.Logic.{◌≢◌, ⊎_elim}
 use mathlib.Core.Bool.{Bool, true, false, not, and-eq-true_iff}
@@ -12,7 +13,7 @@ use Rattle.views.proofs.Nested.{above_fact, above_test, beyond_above}
 use Rattle.views.proofs.Sets.{Inside, inside_lt, inside_fact, member_bit}
 use Rattle.views.proofs.Truth.{true_right, cases}
 use Rattle.stamps.proofs.Order.{greatest_is}
-use Rattle.rules.specs.Sets.{◌&&◌, ◌||◌, members, within, member, inside, none, all}
+use Rattle.rules.specs.Sets.{members, within, member, inside, none, all}
 use Rattle.rules.specs.Stamps.{Pair, greatest}
 use Rattle.rules.specs.Messages.{state, Sending, to_members, opened, Answer, refused, does}
 use Rattle.rules.specs.State.{Transfer, Relay, with_active, with_transfers}

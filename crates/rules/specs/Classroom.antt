@@ -1,7 +1,7 @@
 -- "Classroom examples", those marked for proof: one table, and one theorem about the definitions. Assumes nothing.
-use Rattle.std.specs.Prelude.{Bool, List, [], ◌∷◌, ℕ, T, eqb}
+use Rattle.std.specs.Prelude.{Bool, List, [], ◌∷◌, ℕ, T, eqb, ◌&&◌}
 use Rattle.std.specs.Int.Count.{ones, ones_in}
-use Rattle.rules.specs.Sets.{◌&&◌, members, quorum, inside, clash, some, same, plus, unite, heard, above, all}
+use Rattle.rules.specs.Sets.{members, quorum, inside, clash, some, same, plus, unite, heard, above, all}
 use Rattle.rules.specs.Stamps.{sign, compared, greater}
 
 pub data Example : Type 0 where

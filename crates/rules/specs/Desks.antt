@@ -1,6 +1,6 @@
 -- "Delivery at a desk", and READ, WRITE: each a function of the desk (its number n, its state d) and of what is put to it. Assumes nothing.
-use Rattle.std.specs.Prelude.{Bool, true, false, not, [], ◌∷◌, ℕ, ◌+◌, eqb, leb}
-use Rattle.rules.specs.Sets.{if◌then◌else◌, ◌&&◌, only, joined, member, inside, reaches}
+use Rattle.std.specs.Prelude.{Bool, true, false, not, [], ◌∷◌, ℕ, ◌+◌, eqb, leb, if◌then◌else◌, ◌&&◌}
+use Rattle.rules.specs.Sets.{only, joined, member, inside, reaches}
 use Rattle.rules.specs.Stamps.{Value, Pair, zero_pair, same_stamp, greatest}
 use Rattle.rules.specs.Messages.{Body, request, view, proposal, converged, install, state, get, put, view_reply, pair_reply, ack, to_members, read_done, write_done, not_now, worn, Answer, refused, does, quietly, sends}
 use Rattle.rules.specs.State.{Phase, Idle, Read1, Read2, Write1, Write2, Desk}

@@ -1,6 +1,6 @@
 -- The rules at one generator: Propose, Proposal, Converged. A generator is changed and sends. Assumes nothing.
-use Rattle.std.specs.Prelude.{Bool, not, List, [], ◌∷◌, ◌++◌, ℕ, ◌+◌, ◌*◌, eqb, set, replicate}
-use Rattle.rules.specs.Sets.{if◌then◌else◌, ◌&&◌, none, lacks, same, least, heard, reaches}
+use Rattle.std.specs.Prelude.{Bool, not, List, [], ◌∷◌, ◌++◌, ℕ, ◌+◌, ◌*◌, eqb, set, replicate, if◌then◌else◌, ◌&&◌}
+use Rattle.rules.specs.Sets.{none, lacks, same, least, heard, reaches}
 use Rattle.rules.specs.Messages.{Sending, proposal, converged, install, to_members, to_both}
 use Rattle.rules.specs.State.{Generator}
 

@@ -1,6 +1,6 @@
 -- "Delivery at a relay", and JOIN, LEAVE, TIMER: each a function of the relay (its number s, its state r) and of what is put to it. Assumes nothing.
-use Rattle.std.specs.Prelude.{Bool, true, false, not, List, [], ◌∷◌, ◌++◌, ℕ, eqb}
-use Rattle.rules.specs.Sets.{if◌then◌else◌, ◌&&◌, ◌||◌, joins, leaves, only, joined, less, member, within, inside, reaches, none, those, beyond}
+use Rattle.std.specs.Prelude.{Bool, true, false, not, List, [], ◌∷◌, ◌++◌, ℕ, eqb, if◌then◌else◌, ◌&&◌, ◌||◌}
+use Rattle.rules.specs.Sets.{joins, leaves, only, joined, less, member, within, inside, reaches, none, those, beyond}
 use Rattle.rules.specs.Stamps.{Pair, zero_pair, greatest}
 use Rattle.rules.specs.Messages.{Body, request, view, proposal, converged, install, state, get, put, view_reply, pair_reply, ack, Sending, to_members, to_one, opened, not_now, not_yet, Answer, refused, does, quietly, sends}
 use Rattle.rules.specs.State.{Transfer, Relay, with_known, with_pending, with_active, with_holds, with_generators, with_transfers}

@@ -1,6 +1,5 @@
 -- A run of a list of steps from a start, and the printed record. Assumes nothing.
-use Rattle.std.specs.Prelude.{List, [], ◌∷◌, ◌++◌, ℕ, zero, suc, ◌+◌, ◌*◌, ◌/◌, ◌%◌, ltb, length}
-use Rattle.rules.specs.Sets.{if◌then◌else◌}
+use Rattle.std.specs.Prelude.{List, [], ◌∷◌, ◌++◌, ℕ, zero, suc, ◌+◌, ◌*◌, ◌/◌, ◌%◌, ltb, length, if◌then◌else◌}
 use Rattle.rules.specs.Messages.{Event, nothing, opened, read_done, write_done, number}
 use Rattle.rules.specs.State.{World, start}
 use Rattle.rules.specs.Sending.{waiting_in}

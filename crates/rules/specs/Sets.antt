@@ -1,9 +1,7 @@
 -- "Sets and sequences". A view is a number 0 to 65,535: bit s says relay s joined, bit 8 + s says relay s left. A set of relays or desks is a number too.
 -- The definitions are those of the crate `views`; here they get document 01's words. Assumes nothing.
-use Rattle.std.specs.Prelude.{List, [], ◌∷◌, ℕ, ◌+◌, ◌-◌, ◌^◌, Bool, true, false}
+use Rattle.std.specs.Prelude.{List, [], ◌∷◌, ℕ, ◌+◌, ◌-◌, ◌^◌, Bool, true, false, ◌&&◌}
 use Rattle.std.specs.Int.Bits.{bit_and, bit_or}
-pub use Rattle.std.specs.Prelude.{◌&&◌, ◌||◌}
-pub use Rattle.views.specs.Choice.{if◌then◌else◌}
 unfoldable pub use Rattle.views.specs.Choice.{those}
 pub use Rattle.views.specs.View.{bit_of as bit, members_of as members, quorum_of as quorum, within_of as within}
 unfoldable pub use Rattle.views.specs.View.{member_of as member, reaches_of as reaches, inside_of as inside, clash_of as clash}

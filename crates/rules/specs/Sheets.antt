@@ -1,8 +1,7 @@
 -- "Sheets": bytes to a mask and steps, and back. Assumes nothing.
-use Rattle.std.specs.Prelude.{Bool, true, not, List, [], ◌∷◌, ◌++◌, ℕ, zero, suc, ◌+◌, ◌-◌, ◌*◌, ◌/◌, ◌%◌, eqb, ltb, length, get_or, drop}
+use Rattle.std.specs.Prelude.{Bool, true, not, List, [], ◌∷◌, ◌++◌, ℕ, zero, suc, ◌+◌, ◌-◌, ◌*◌, ◌/◌, ◌%◌, eqb, ltb, length, get_or, drop, if◌then◌else◌, ◌&&◌, ◌||◌}
 use Rattle.rows.specs.Bytes.{bytes_of, number_at, be16, u16_at, zeros}
 use Rattle.rows.specs.Tests.{all_zero}
-use Rattle.rules.specs.Sets.{if◌then◌else◌, ◌&&◌, ◌||◌}
 use Rattle.rules.specs.Steps.{Step}
 
 -- ---- the form of a version

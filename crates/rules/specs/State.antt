@@ -1,6 +1,6 @@
 -- "The world": its parts, and the start. Assumes nothing.
-use Rattle.std.specs.Prelude.{Bool, true, false, List, [], ◌∷◌, map, ℕ, get_or, set, replicate}
-use Rattle.rules.specs.Sets.{if◌then◌else◌, bit}
+use Rattle.std.specs.Prelude.{Bool, true, false, List, [], ◌∷◌, map, ℕ, get_or, set, replicate, if◌then◌else◌}
+use Rattle.rules.specs.Sets.{bit}
 use Rattle.rules.specs.Stamps.{Pair, zero_pair}
 use Rattle.rules.specs.Messages.{Message}
 -- "Desk: alive, view, phase (idle, read 1, read 2, write 1, write 2), try 0..65,535, value, stamp, who replied, best reply, whether all stamps agreed."

@@ -1,7 +1,7 @@
 -- "Steps": one step of a world. The rules at relays and desks answer; here a step is routed, refused in the table's order, and its messages are placed.
 -- Assumes nothing.
-use Rattle.std.specs.Prelude.{Bool, List, ℕ, ◌+◌, ◌-◌, eqb, leb, ltb, length, set}
-use Rattle.rules.specs.Sets.{if◌then◌else◌, ◌&&◌, relay_count, desk_count, everyone, place_count, seat_count}
+use Rattle.std.specs.Prelude.{Bool, List, ℕ, ◌+◌, ◌-◌, eqb, leb, ltb, length, set, if◌then◌else◌, ◌&&◌}
+use Rattle.rules.specs.Sets.{relay_count, desk_count, everyone, place_count, seat_count}
 use Rattle.rules.specs.Stamps.{Value, is_value, is_no_value}
 use Rattle.rules.specs.Messages.{Message, outgoing, Event, nothing, opened, read_done, write_done, Refusal, bad_step, empty, dead, no_room, Answer, refused, does}
 use Rattle.rules.specs.State.{Relay, Desk, Place, free, waiting, World, crashed_relay, crashed_desk, relay_at, desk_at, place_at, with_relay, with_desk, with_places}

@@ -1,7 +1,7 @@
 -- The table of answers, rows 2 to 8, over a world and a step, each row with document 01's own condition. That the rules answer by it is proofs/Order.
 -- Assumes nothing.
-use Rattle.std.specs.Prelude.{Bool, true, false, not, List, [], ◌∷◌, ℕ, ◌+◌, ◌-◌, eqb, leb, ltb, length, get_or}
-use Rattle.rules.specs.Sets.{◌&&◌, ◌||◌, if◌then◌else◌, within, member, reaches, inside, joins, none, all, relay_count, desk_count, everyone, place_count, seat_count}
+use Rattle.std.specs.Prelude.{Bool, true, false, not, List, [], ◌∷◌, ℕ, ◌+◌, ◌-◌, eqb, leb, ltb, length, get_or, if◌then◌else◌, ◌&&◌, ◌||◌}
+use Rattle.rules.specs.Sets.{within, member, reaches, inside, joins, none, all, relay_count, desk_count, everyone, place_count, seat_count}
 use Rattle.rules.specs.Stamps.{is_value, is_no_value}
 use Rattle.rules.specs.Messages.{Body, request, view, proposal, converged, install, state, get, put, view_reply, pair_reply, ack, Message, outgoing, bad_step, empty, dead, not_now, not_yet, worn, no_room, number, Answer, refused, does}
 use Rattle.rules.specs.State.{Desk, Phase, Idle, Read1, Read2, Write1, Write2, Transfer, Relay, Place, free, waiting, World, relay_at, desk_at, place_at}

@@ -1,7 +1,7 @@
 -- When a world is good, as one test: the conditions of "The world", part by part, over clean values. (That its length is right and unused room is zero
 -- is said where a world is read from bytes.) Assumes nothing.
-use Rattle.std.specs.Prelude.{Bool, true, false, not, List, [], ◌∷◌, ℕ, suc, eqb, leb, ltb, length}
-use Rattle.rules.specs.Sets.{◌&&◌, ◌||◌, joins, leaves, member, members, within, inside, above, lacks, least, none, all, all_hold}
+use Rattle.std.specs.Prelude.{Bool, true, false, not, List, [], ◌∷◌, ℕ, suc, eqb, leb, ltb, length, ◌&&◌, ◌||◌}
+use Rattle.rules.specs.Sets.{joins, leaves, member, members, within, inside, above, lacks, least, none, all, all_hold}
 use Rattle.rules.specs.Stamps.{Stamp, Pair, is_value, is_no_value}
 use Rattle.rules.specs.Messages.{Body, request, view, proposal, converged, install, state, get, put, view_reply, pair_reply, ack, Message}
 use Rattle.rules.specs.State.{Generator, Transfer, Relay, Phase, Idle, Read1, Read2, Write1, Write2, Desk, Place, free, waiting, World}

@@ -1,5 +1,6 @@
 -- What follows for those who look at a run: a relay hands on state only after it has entered, a reply of another try is never counted, a proposal that has
 -- grown is never dropped, and the views that relays enter form one chain, at all times of a run. Assumes nothing.
+use Rattle.std.specs.Prelude.{◌&&◌}
 use mathlib.Core.Path.{◌≡◌, refl, subst, ap, ◌∙◌}
 use mathlib.Core.Logic.{◌≢◌, ◌⊎◌, inl, inr, ⊎_elim}
 use mathlib.Core.Bool.{true, false, not, and-false}
@@ -17,7 +18,7 @@ use Rattle.views.proofs.Truth.{cases, decided, either_true, true_left}
 use Rattle.views.proofs.Sets.{within_refl, within_trans, within_or_right, within_test, Inside, inside_fact, inside_lt}
 use Rattle.views.proofs.Among.{some-plus, lacks_fact, lacks_union_left}
 use Rattle.views.proofs.Nested.{above_fact, most-within}
-use Rattle.rules.specs.Sets.{◌&&◌, member, within, above, has, lacks, same}
+use Rattle.rules.specs.Sets.{member, within, above, has, lacks, same}
 use Rattle.rules.specs.Stamps.{Value, Pair}
 use Rattle.rules.specs.Messages.{Body, Message, state as state_says, proposal, view_reply, pair_reply, ack, Sending, to_members, quietly}
 use Rattle.rules.specs.State.{Place, free, waiting, place_at, Generator, Relay, World, start, relay_at}

@@ -1,5 +1,6 @@
 -- When operations began and ended: step numbers for the begin and finish entries of a log. `begins d t` is the number of the step in which the desk d
 -- began with the try t, and `ends d t` that in which this operation ended, 0 where it has not. Assumes nothing.
+use Rattle.std.specs.Prelude.{if◌then◌else◌}
 use mathlib.Core.Path.{◌≡◌, refl, sym, subst, ap, ◌∙◌}
 use mathlib.Core.Logic.{◌⊎◌, inl, inr, ⊎_elim}
 use mathlib.Core.Bool.{◌&&◌}
@@ -10,7 +11,6 @@ use native.Mathlib.Omega.{arith}
 use native.Mathlib.Decide.{ℕ_discrete}
 use lib.Dec.{eqb}
 use borrow.Author.Tests.{eq-eqb, ne_eqb}
-use Rattle.views.specs.Choice.{if◌then◌else◌}
 use Rattle.safety.proofs.Log.{Task, Op, Entry, tag, Log, ◌∋◌, begin, finish}
 use Rattle.safety.proofs.Past.{Past, now, back, here}
 use Rattle.safety.proofs.Entries.{older, past-kind}

@@ -1,4 +1,5 @@
 -- Replies at a desk: noted for the try and the view that asked, and at a quorum the phase settles or the operation ends. Assumes nothing.
+use Rattle.std.specs.Prelude.{if◌then◌else◌}
 use mathlib.Core.Path.{◌≡◌, refl, sym, subst, ap, ◌∙◌}
 use mathlib.Core.Logic.{◌⊎◌, inl, inr, ⊎_elim}
 use mathlib.Core.Bool.{Bool, true, false, not, ◌&&◌, false≢true, and-eq-true_iff}
@@ -9,7 +10,6 @@ use native.Mathlib.Omega.{arith}
 use lib.Dec.{eqb}
 use lib.Bits.{bit_or}
 use borrow.Author.Tests.{eqb-true, eq-eqb, not-true}
-use Rattle.views.specs.Choice.{if◌then◌else◌}
 use Rattle.views.specs.View.{bit_of, reaches_of}
 use Rattle.views.proofs.Truth.{contrary, cases, either_true, true_right}
 use Rattle.views.proofs.Digits.{bit_none, bit_of-bit_or, bit_one}

@@ -1,5 +1,6 @@
 -- ALONG EVERY RUN there is a sound log to which the world is tied, and which says what the history says. The log is made step by step.
 -- Assumes nothing.
+use Rattle.std.specs.Prelude.{if◌then◌else◌}
 use mathlib.Core.Path.{◌≡◌, refl, sym, subst, ap, ◌∙◌}
 use mathlib.Core.Logic.{inl}
 use mathlib.Core.Bool.{Bool, true, false, true≢false}
@@ -8,7 +9,6 @@ use mathlib.Core.List.{List, [], ◌∷◌, ◌++◌, append-nil, append_assoc}
 use Prim.Native.Nat.{ℕ, zero, suc, ◌<◌}
 use native.Mathlib.Omega.{arith}
 use lib.ListN.{get_or-replicate}
-use Rattle.views.specs.Choice.{if◌then◌else◌}
 use Rattle.views.proofs.Among.{lacks_self}
 use Rattle.views.proofs.Nested.{above_none}
 use Rattle.rules.specs.Sets.{bit}

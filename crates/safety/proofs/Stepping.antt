@@ -1,5 +1,6 @@
 -- ONE STEP: from a world tied to a sound log, every accepted step gives a world tied to a sound log that has grown by the step's entries.
 -- Assumes nothing.
+use Rattle.std.specs.Prelude.{if◌then◌else◌}
 use mathlib.Core.Path.{◌≡◌, refl, subst, ap}
 use mathlib.Core.Bool.{Bool, true, false, ◌&&◌, and-eq-true_iff}
 use mathlib.Core.List.{[], ◌∷◌}
@@ -9,7 +10,6 @@ use native.Mathlib.Decide.{dec_lt}
 use lib.Dec.{eqb, ltb}
 use lib.ListN.{get_or-eq_default}
 use borrow.Author.Tests.{ltb-true, ltb-false}
-use Rattle.views.specs.Choice.{if◌then◌else◌}
 use Rattle.views.proofs.Truth.{contrary, cases}
 use Rattle.rules.specs.Stamps.{Value, Pair, zero_pair, is_value}
 use Rattle.rules.specs.Messages.{Message, outgoing, Event, nothing, Answer, refused, does}

@@ -1,4 +1,5 @@
 -- The rules at one generator (the relay k's, for the view v): their entries are justified, and the generator stays tied. Assumes nothing.
+use Rattle.std.specs.Prelude.{if◌then◌else◌}
 use mathlib.Core.Path.{◌≡◌, refl, sym, subst, ap, ◌∙◌}
 use mathlib.Core.Logic.{◌⊎◌, inl, inr, ⊎_elim}
 use mathlib.Core.Bool.{Bool, true, false, not, ◌&&◌, and-eq-true_iff}
@@ -10,7 +11,6 @@ use native.Mathlib.Decide.{ℕ_discrete, dec_lt}
 use lib.ListN.{length, get_or, set, length-set, get_or-eq_default}
 use lib.Seq.{get_or-set_same, get_or-set_other}
 use borrow.Author.Tests.{eqb-true, not-true}
-use Rattle.views.specs.Choice.{if◌then◌else◌}
 use Rattle.views.specs.View.{bit_of, reaches_of}
 use Rattle.views.specs.Chain.{has_of, lacks_of, same_of, least_of, heard_of}
 use Rattle.views.proofs.Truth.{contrary, cases, decided}

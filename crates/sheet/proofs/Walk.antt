@@ -1,5 +1,6 @@
 -- The code's answer is the rules' reading of the same bytes, and a reader goes through an accepted sheet's list of steps.
 -- Assumes nothing.
+use Rattle.std.specs.Prelude.{if◌then◌else◌}
 use mathlib.Core.Path.{◌≡◌, refl, sym, ap, ◌∙◌}
 use mathlib.Core.Bool.{Bool, true, false}
 use mathlib.Core.List.{List, [], ◌∷◌}
@@ -10,7 +11,6 @@ use lib.Dec.{leb}
 use lib.ListN.{length, drop}
 use lib.Seq.{drop-drop}
 use borrow.Author.Tests.{leb-true, leb-false}
-use Rattle.rules.specs.Sets.{if◌then◌else◌}
 use Rattle.rules.specs.declared.Step.{Step}
 use Rattle.rules.specs.Sheets.{Form, bad, sheet, step_width, step_in, steps_in, header_width, mask_in, form_in, steps_of, is_bad_sheet, list_by, sheet_in}
 use Rattle.sheet.specs.declared.Found.TheVariants.{At, End}

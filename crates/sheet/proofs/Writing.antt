@@ -1,4 +1,5 @@
 -- A list of steps in three slices, a loop that writes it, and what writing a sheet answers. Assumes nothing.
+use Rattle.std.specs.Prelude.{if◌then◌else◌}
 use mathlib.Core.Path.{◌≡◌, refl, sym, ap, ◌∙◌}
 use mathlib.Core.Bool.{Bool, true, false, not, ◌||◌}
 use mathlib.Core.List.{List, [], ◌∷◌, ◌++◌, append-nil}
@@ -16,7 +17,6 @@ use Rattle.views.proofs.Truth.{neither_true}
 use Rattle.rows.specs.Bytes.{splice, placed, bytes_of, fields_of}
 use Rattle.rows.proofs.Laws.{placed-length, placed_nil, placed_more, placed_fits}
 use Rattle.rows.proofs.Numbers.{byte-number, zeros-number}
-use Rattle.rules.specs.Sets.{if◌then◌else◌}
 use Rattle.rules.specs.declared.Step.{Step}
 use Rattle.rules.specs.Sheets.{Form, version1, step_width, step_bytes, steps_bytes, header_width, header_bytes, sheet_bytes, sheet_width}
 use Rattle.rules.specs.Sheets.{bad_sheet, no_room, wrote, number, written}

@@ -1,6 +1,5 @@
 -- What the code finds in a sheet's bytes, by the rules of crate `rules`, Sheets. Assumes nothing.
-use Rattle.std.specs.Prelude.{true, false, List, ℕ, ◌+◌, ◌-◌, ◌/◌, leb, length, drop}
-use Rattle.rules.specs.Sets.{if◌then◌else◌}
+use Rattle.std.specs.Prelude.{true, false, List, ℕ, ◌+◌, ◌-◌, ◌/◌, leb, length, drop, if◌then◌else◌}
 use Rattle.rules.specs.declared.Step.{Step}
 use Rattle.rules.specs.Sheets.{Sheet as Read, bad, sheet, step_width, step_in, steps_in, header_width, mask_in, form_in, steps_of, is_bad_sheet}
 use Rattle.sheet.specs.declared.Sheet.{Sheet}

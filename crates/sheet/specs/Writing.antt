@@ -1,6 +1,5 @@
 -- What writing a sheet answers and leaves in the buffer, by the rules of crate `rules`, Sheets. Assumes nothing.
-use Rattle.std.specs.Prelude.{Bool, not, List, [], ◌∷◌, map, ℕ, eqb, length}
-use Rattle.rules.specs.Sets.{if◌then◌else◌, ◌||◌}
+use Rattle.std.specs.Prelude.{Bool, not, List, [], ◌∷◌, map, ℕ, eqb, length, if◌then◌else◌, ◌||◌}
 use Rattle.rules.specs.declared.Step.{Step}
 use Rattle.rules.specs.Sheets.{version1, Written as Ruling, bad_sheet, no_room, wrote, sheet_bytes, written}
 use Rattle.sheet.specs.declared.Written.{Written}

@@ -1,8 +1,7 @@
 -- What the code's values mean, in the words of the rules. A row of views means the list of its views, so unused entries of a row mean nothing.
 -- Assumes nothing.
-use Rattle.std.specs.Prelude.{Bool, List, [], ◌∷◌, map, ℕ}
+use Rattle.std.specs.Prelude.{Bool, List, [], ◌∷◌, map, ℕ, if◌then◌else◌}
 use Rattle.views.specs.Row.{views_of}
-use Rattle.rules.specs.Sets.{if◌then◌else◌}
 use Rattle.rules.specs.Messages as rules
 use Rattle.rules.specs.State.{Relay}
 use Rattle.rules.specs.State as rules-state

@@ -1,5 +1,6 @@
 -- Which views a sequence has, and what `some`, `lacks_of`, `conflict_of`, `same_of`, `plus_of`, `union_of` and `beyond_of` say of them. No order is asked for.
 -- That v is one of l is the fact `has_of l v ≡ true`. Assumes nothing.
+use Rattle.std.specs.Prelude.{if◌then◌else◌}
 use mathlib.Core.Path.{◌≡◌, refl, sym, ap, ap₂, ◌∙◌}
 use mathlib.Core.Logic.{⊎_elim}
 use mathlib.Core.Bool.{Bool, true, false, not, ◌&&◌, ◌||◌, and-eq-true_iff, and-false, or_assoc, or_self_left}
@@ -7,7 +8,7 @@ use mathlib.Core.List.{List, [], ◌∷◌}
 use Prim.Native.Nat.{ℕ}
 use lib.Dec.{eqb, ltb}
 use borrow.Author.Tests.{eqb-true, eq-eqb, not-false}
-use Rattle.views.specs.Choice.{if◌then◌else◌, those}
+use Rattle.views.specs.Choice.{those}
 use Rattle.views.specs.View.{inside_of}
 use Rattle.views.specs.Chain.{some, has_of, lacks_of, same_of, plus_of, union_of, beyond_of}
 use Rattle.views.proofs.Truth.{contrary, never_true, either_true, true_left, true_right, cases}

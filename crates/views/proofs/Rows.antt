@@ -1,4 +1,5 @@
 -- Laws of rows: what a row holds, the row of a list, and one view more at its end. Assumes nothing.
+use Rattle.std.specs.Prelude.{if◌then◌else◌}
 use mathlib.Core.Path.{◌≡◌, refl, sym, ap, ap₂, ◌∙◌}
 use mathlib.Core.Bool.{Bool, true, false}
 use mathlib.Core.List.{List, [], ◌∷◌, ◌++◌, append_assoc}
@@ -8,7 +9,6 @@ use lib.Dec.{eqb, ltb}
 use lib.ListN.{length, set, get_or, take, replicate, length-append, length-take, get_or-eq_default}
 use lib.Seq.{take_all, take-take, take-append_seam, take-append-le, get_or-take, set-append_seam}
 use Rattle.views.specs.declared.Sequence.{Sequence}
-use Rattle.views.specs.Choice.{if◌then◌else◌}
 use Rattle.views.specs.Chain.{plus_of}
 use Rattle.views.specs.Row.{views_of, row_of}
 

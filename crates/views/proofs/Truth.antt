@@ -1,9 +1,9 @@
 -- Reasoning by tests, for all the laws of this crate and of those above it: by the two values of a test, and by the parts of a joined one.
 -- `and-eq-true_iff` of mathlib.Core.Bool says what a true `&&` is. Assumes nothing.
+use Rattle.std.specs.Prelude.{if◌then◌else◌}
 use mathlib.Core.Path.{◌≡◌, refl, sym, ◌∙◌}
 use mathlib.Core.Logic.{◌⊎◌, inl, inr}
 use mathlib.Core.Bool.{Bool, true, false, ◌||◌, false≢true}
-use Rattle.views.specs.Choice.{if◌then◌else◌}
 
 pub decided : (b : Bool) → (b ≡ true) ⊎ (b ≡ false)
 decided true = inl refl

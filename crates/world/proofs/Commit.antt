@@ -1,4 +1,5 @@
 -- A plan committed: what its answer says of the rule's, the room that it needs, and the world after it. Assumes nothing.
+use Rattle.std.specs.Prelude.{if◌then◌else◌}
 use mathlib.Core.Path.{◌≡◌, refl, sym, ap, ◌∙◌}
 use mathlib.Core.Logic.{◌≢◌, ⊎_elim}
 use mathlib.Core.Bool.{Bool, true, false, ◌&&◌, and-false}
@@ -10,7 +11,6 @@ use lib.ListN.{length}
 use Rattle.views.proofs.Truth.{decided}
 use Rattle.rows.specs.Bytes.{placed}
 use Rattle.rows.proofs.Laws.{placed_fits}
-use Rattle.rules.specs.Sets.{if◌then◌else◌}
 use Rattle.rules.specs.Messages.{Sending, outgoing, Refusal, bad_world, bad_step, empty, dead, not_now, not_yet, worn, no_room, number, Answer, refused, does}
 use Rattle.rules.specs.State.{Relay, no_relay, no_desk, World, relay_at, with_relay, with_desk, with_places}
 use Rattle.rules.specs.declared.Desk.{Desk}

@@ -1,5 +1,6 @@
 -- Lists, as the loops of this crate ask for them: the first that passes, the part that passes of a list that grows, and one place written with what it holds.
 -- Assumes nothing.
+use Rattle.std.specs.Prelude.{if◌then◌else◌}
 use mathlib.Core.Path.{◌≡◌, refl, sym, ap, ◌∙◌}
 use mathlib.Core.Logic.{⊎_elim}
 use mathlib.Core.Bool.{Bool, true, false, ◌||◌}
@@ -13,7 +14,7 @@ use lib.ListN.{get_or-eq_default, length, get_or, set}
 use borrow.Author.Tests.{leb-true, leb-false}
 use Rattle.views.proofs.Truth.{decided, contrary, neither_true, either_true}
 use Rattle.rows.specs.Bytes.{tab}
-use Rattle.rules.specs.Sets.{if◌then◌else◌, those}
+use Rattle.rules.specs.Sets.{those}
 use Rattle.rules.proofs.Lists.{those-append}
 use Rattle.world.specs.Commits.{First}
 use Rattle.locality.proofs.Seat.{seat, seat_is}

@@ -1,4 +1,5 @@
 -- The message places of an image: which are free, how many, and what placing, freeing and sending make of them. Assumes nothing.
+use Rattle.std.specs.Prelude.{if◌then◌else◌}
 use mathlib.Core.Path.{◌≡◌, refl, sym, ap, ◌∙◌}
 use mathlib.Core.Logic.{◌≢◌, ⊎_elim}
 use mathlib.Core.Bool.{true, false}
@@ -16,7 +17,7 @@ use Rattle.views.proofs.Truth.{decided, contrary}
 use Rattle.rows.specs.Bytes.{placed, splice, tab, cat, zeros}
 use Rattle.rows.proofs.Laws.{Holds, holds-byte, placed_fits, placed_not}
 use Rattle.rows.proofs.Change.{Changed, changed_first, changed_more, changed_set}
-use Rattle.rules.specs.Sets.{if◌then◌else◌, bit, those}
+use Rattle.rules.specs.Sets.{bit, those}
 use Rattle.rules.specs.Messages.{Message, Sending, copies, outgoing}
 use Rattle.rules.specs.State.{Place, free, waiting, World, place_at, with_places}
 use Rattle.rules.specs.Sending.{place, place_all, free_in}

@@ -1,4 +1,5 @@
 -- How a step is routed: which act it tells, which message a place holds, and what the acts are of their parts. Assumes nothing.
+use Rattle.std.specs.Prelude.{if◌then◌else◌}
 use mathlib.Core.Path.{◌≡◌, refl, sym, ap, ◌∙◌}
 use mathlib.Core.Logic.{⊎_elim}
 use mathlib.Core.Bool.{Bool, true, false, not, ◌&&◌, ◌||◌, and-false, and-eq-true_iff}
@@ -8,7 +9,6 @@ use native.Mathlib.Omega.{arith}
 use lib.Dec.{eqb, leb, ltb}
 use borrow.Author.Tests.{ne_eqb, lt-ltb, le-ltb, lt-leb, eqb-true, ltb-true, not-true, not-false}
 use Rattle.views.proofs.Truth.{decided, contrary, cases, either_true, neither_true}
-use Rattle.rules.specs.Sets.{if◌then◌else◌}
 use Rattle.rules.specs.Messages.{Body, Message, Answer, dead, empty, bad_step, bad_world}
 use Rattle.rules.specs.State.{Relay, Place, free, waiting, World, relay_at, desk_at, place_at}
 use Rattle.rules.specs.declared.Desk as rules-desk

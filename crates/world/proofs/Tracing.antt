@@ -1,4 +1,5 @@
 -- A run, step by step: what the rows and the world are after each of its steps, and at its end. Assumes nothing.
+use Rattle.std.specs.Prelude.{if◌then◌else◌}
 use mathlib.Core.Path.{◌≡◌, refl, sym, ap, ◌∙◌}
 use mathlib.Core.Bool.{Bool, true, false}
 use mathlib.Core.List.{List, [], ◌∷◌, ◌++◌, append_assoc, append-nil}
@@ -11,7 +12,6 @@ use borrow.Author.Tests.{eq-eqb, ne_eqb, lt-leb, lt-ltb, le-ltb}
 use Rattle.rows.specs.Bytes.{splice, placed, bytes_of, fields_of, sum}
 use Rattle.rows.proofs.Laws.{placed_fits, placed_nil, Holds, holds-left, holds_right, holds-byte, Put, put_first, put_then}
 use Rattle.rows.proofs.Numbers.{length-bytes_of, fields-length, holds_u16, holds_u32}
-use Rattle.rules.specs.Sets.{if◌then◌else◌}
 use Rattle.rules.specs.Messages.{Event, nothing, opened, read_done, write_done}
 use Rattle.rules.specs.State.{World, start}
 use Rattle.rules.specs.declared.Step.{Step}

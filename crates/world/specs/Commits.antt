@@ -1,7 +1,7 @@
 -- In what parts the code takes a step: what it looks up in the buffer, and what it makes of a plan. Assumes nothing.
-use Rattle.std.specs.Prelude.{◌≡◌, Bool, true, false, not, ◌&&◌, ◌||◌, List, ℕ, zero, suc, ◌+◌, ◌*◌, ◌-◌, ◌≤◌, ◌<◌, eqb, leb, ltb, get_or, set, replicate}
+use Rattle.std.specs.Prelude.{◌≡◌, Bool, true, false, not, ◌&&◌, ◌||◌, List, ℕ, zero, suc, ◌+◌, ◌*◌, ◌-◌, ◌≤◌, ◌<◌, eqb, leb, ltb, get_or, set, replicate, if◌then◌else◌}
 use Rattle.rows.specs.Bytes.{u16_at, tab}
-use Rattle.rules.specs.Sets.{if◌then◌else◌, bit, those, inside, relay_count, desk_count, everyone}
+use Rattle.rules.specs.Sets.{bit, those, inside, relay_count, desk_count, everyone}
 use Rattle.rules.specs.Messages.{Body, Message, Answer}
 use Rattle.rules.specs.State.{Transfer, Relay, Place, free, waiting, no_relay, no_desk, World, relay_at, desk_at, place_at, start_relay, start_desk}
 use Rattle.rules.specs.declared.Desk.{Desk}

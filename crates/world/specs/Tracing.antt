@@ -1,7 +1,7 @@
 -- What a run leaves in the lent buffers: of one step, and of a whole sheet. Assumes nothing.
-use Rattle.std.specs.Prelude.{◌≡◌, List, [], ◌∷◌, ◌++◌, ℕ, ◌+◌, ◌*◌, ◌-◌, eqb, ltb, length, get_or, drop}
+use Rattle.std.specs.Prelude.{◌≡◌, List, [], ◌∷◌, ◌++◌, ℕ, ◌+◌, ◌*◌, ◌-◌, eqb, ltb, length, get_or, drop, if◌then◌else◌}
 use Rattle.rows.specs.Bytes.{placed, fields_of, u16_at, u32_at}
-use Rattle.rules.specs.Sets.{if◌then◌else◌, place_count}
+use Rattle.rules.specs.Sets.{place_count}
 use Rattle.rules.specs.Messages as table
 use Rattle.rules.specs.State.{World, start}
 use Rattle.rules.specs.declared.Step.{Step}

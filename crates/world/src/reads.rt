@@ -1,7 +1,6 @@
 // What a step looks up in the lent buffer.
-ghost use Rattle.std.specs.Prelude.{◌≡◌, true, ◌&&◌, ◌||◌, not, ℕ, ◌+◌, ◌*◌, ◌≤◌, ◌<◌, eqb, leb, ltb, length};
+ghost use Rattle.std.specs.Prelude.{◌≡◌, true, ◌&&◌, ◌||◌, not, ℕ, ◌+◌, ◌*◌, ◌≤◌, ◌<◌, eqb, leb, ltb, length, if◌then◌else◌};
 ghost use Rattle.rows.specs.Bytes.{u16_at};
-ghost use Rattle.rules.specs.Sets.{if◌then◌else◌};
 ghost use Rattle.rules.specs.Messages as rules;
 ghost use Rattle.rules.specs.State.{relay_at};
 ghost use Rattle.rules.specs.Steps.{alive_in};

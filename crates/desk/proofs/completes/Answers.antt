@@ -1,4 +1,5 @@
 -- `desk::completes` meets its contract: in each phase, what the rule says of it. Assumes nothing.
+use Rattle.std.specs.Prelude.{if◌then◌else◌}
 use mathlib.Core.Path.{◌≡◌, sym, ap, ◌∙◌}
 use mathlib.Core.Bool.{Bool, true, false}
 use mathlib.Core.List.{[]}
@@ -7,7 +8,6 @@ use Rattle.rules.specs.declared.Desk.{Desk}
 use Rattle.rules.specs.declared.Phase.{Phase}
 use Rattle.rules.specs.declared.Phase.TheVariants.{Read1, Read2}
 use Rattle.rules.specs.Messages.{does, read_done}
-use Rattle.rules.specs.Sets.{if◌then◌else◌}
 use Rattle.rules.specs.State.{no_desk}
 use Rattle.rules.specs.Desks.{ended, begins, completes}
 use Rattle.state.specs.Meaning.{event_of}

@@ -1,11 +1,12 @@
 -- `desk::counted` meets its contract. Assumes nothing.
+use Rattle.std.specs.Prelude.{if◌then◌else◌}
 use mathlib.Core.Path.{◌≡◌, sym, ◌∙◌}
 use mathlib.Core.Bool.{Bool, true, false}
 use Prim.Native.Nat.{ℕ}
 use borrow.Author.Tests.{not-true, not-false}
 use Rattle.rules.specs.declared.Desk.{Desk}
 use Rattle.rules.specs.Messages.{quietly}
-use Rattle.rules.specs.Sets.{if◌then◌else◌, reaches}
+use Rattle.rules.specs.Sets.{reaches}
 use Rattle.rules.specs.State.{no_desk}
 use Rattle.rules.specs.Desks.{completes, counted}
 use Rattle.state.specs.Plans.{Planned, planned}

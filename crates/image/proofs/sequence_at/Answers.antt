@@ -1,4 +1,5 @@
 -- `image::sequence_at` meets its contract: the views before i are read, and those from the length on are zero. Assumes nothing.
+use Rattle.std.specs.Prelude.{if◌then◌else◌}
 use mathlib.Core.Path.{◌≡◌, refl, sym, ap₂, ◌∙◌}
 use mathlib.Core.List.{List}
 use Prim.Native.Nat.{ℕ, zero, suc, ◌+◌, ◌<◌, min}
@@ -10,7 +11,6 @@ use borrow.Author.Tests.{ltb-true, ltb-false}
 use Rattle.views.proofs.Truth.{cases}
 use Rattle.rows.specs.Bytes.{tab}
 use Rattle.rows.proofs.Laws.{length-tab, get_d_tab, fill_none, fill_more}
-use Rattle.views.specs.Choice.{if◌then◌else◌}
 use Rattle.views.specs.declared.Sequence.{Sequence}
 use Rattle.image.specs.Parts.{sequence_row_at}
 use Rattle.image.proofs.Ends.{alike_end, sequence_alike}

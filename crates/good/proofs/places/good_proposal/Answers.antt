@@ -1,10 +1,11 @@
 -- `good::places::good_proposal` meets its contract. Assumes nothing.
+use Rattle.std.specs.Prelude.{◌&&◌}
 use mathlib.Core.Bool.{not}
 use mathlib.Core.Path.{◌≡◌, ap}
 use mathlib.Core.List.{[], ◌∷◌}
 use lib.Dec.{eqb, ltb}
 use Rattle.views.specs.Row.{views_of}
-use Rattle.rules.specs.Sets.{all_hold, ◌&&◌, member, above, none}
+use Rattle.rules.specs.Sets.{all_hold, member, above, none}
 use Rattle.rules.specs.WellFormed.{good_body, good_place}
 use Rattle.good.proofs.Tests.{fails, in_range, last, no, none_count, pass, yes}
 use Rattle.good.proofs.places.good_proposal.Goals as goal

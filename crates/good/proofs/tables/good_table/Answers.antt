@@ -1,11 +1,12 @@
 -- `good::tables::good_table` meets its contract: the places before i are good. Assumes nothing.
+use Rattle.std.specs.Prelude.{◌||◌}
 use mathlib.Core.Path.{◌≡◌, sym, ◌∙◌}
 use mathlib.Core.Bool.{Bool, false}
 use Prim.Native.Nat.{◌*◌, ◌-◌, ◌≤◌}
 use native.Mathlib.Omega.{arith}
 use borrow.Author.Rules.{rules}
 use Rattle.rows.proofs.All.{passed_all, passed_fails, passed_more, passed_none, passed_rest}
-use Rattle.rules.specs.Sets.{◌||◌, seat_count}
+use Rattle.rules.specs.Sets.{seat_count}
 use Rattle.layout.specs.Layout.{generator_width, generators_width}
 use Rattle.good.specs.Rows.{filled_good}
 use Rattle.good.proofs.Rows.{rows_inside}

@@ -1,4 +1,5 @@
 -- `world::reads::has_room` meets its contract. Assumes nothing.
+use Rattle.std.specs.Prelude.{if◌then◌else◌}
 use mathlib.Core.Path.{◌≡◌, refl, sym, ◌∙◌}
 use mathlib.Core.Bool.{Bool, true, false}
 use Prim.Native.Nat.{ℕ, ◌+◌, ◌-◌, ◌<◌}
@@ -6,7 +7,6 @@ use native.Mathlib.Omega.{arith}
 use lib.Dec.{leb, ltb}
 use lib.ListN.{length}
 use borrow.Author.Tests.{le-leb, lt-leb, leb-true, leb-false}
-use Rattle.rules.specs.Sets.{if◌then◌else◌}
 use Rattle.rules.specs.Messages.{outgoing}
 use Rattle.state.specs.Meaning.{sendings_of}
 use Rattle.world.specs.Commits.{free_rows}
