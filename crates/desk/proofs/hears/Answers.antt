@@ -16,7 +16,9 @@ pub returns-then-kind : goal.returns-then-kind
 returns-then-kind c = rw (no_reply c.args.n c.args.d c.args.from c.args.b c.if-kind.true) c.does_nothing.ensures
 
 pub returns-then-not-current : goal.returns-then-not-current
-returns-then-not-current c = rw (unheard c.args.b c.if-kind.false c.args.n c.args.d c.args.from (sym c.current.ensures ∙ not-true _ c.if-not-current.true-raw)) c.does_nothing-then-not-current.ensures
+returns-then-not-current c =
+    rw (unheard c.args.b c.if-kind.false c.args.n c.args.d c.args.from (sym c.current.ensures ∙ not-true _ c.if-not-current.true-raw))
+    c.does_nothing-then-not-current.ensures
 
 pub returns-then-kind-eq-VIEW_REPLY : goal.returns-then-kind-eq-VIEW_REPLY
 unfolding body_of body_in desk_hears view_came
@@ -29,7 +31,7 @@ unfolding body_of body_in desk_hears pair_came reply_noted
 returns-then-kind-eq-PAIR_REPLY c =
     let now : current c.args.d c.args.from c.args.b.tries ≡ true = sym c.current.ensures ∙ not-false _ c.if-not-current.false-raw in
     let below : c.args.from < 8 = member_lt c.args.d.view c.args.from (current_member c.args.d c.args.from c.args.b.tries (now)) in
-    rw (c.if-kind-eq-PAIR_REPLY.true, now) (rw (lt-ltb _ _ (below)) at c.pair_came.ensures)
+    rw (c.if-kind-eq-PAIR_REPLY.true, now) (rw (lt-ltb _ _ below) at c.pair_came.ensures)
 
 pub ack_came-requires : goal.ack_came-requires
 ack_came-requires c =

@@ -8,4 +8,5 @@ use Rattle.engine.proofs.put_columns.Goals as goal
 
 pub returns : goal.returns
 unfolding fields_of columns_of told_bytes cat
-returns c = c.put_fields.ensures ∙ simp (byte-number c.struct_known-4-1.given.0, byte-number c.struct_known-4-1.given.1.0, byte-number c.struct_known-4-1.given.1.1.1.0)
+returns c = c.put_fields.ensures
+    ∙ simp (byte-number c.struct_known-4-1.given.0, byte-number c.struct_known-4-1.given.1.0, byte-number c.struct_known-4-1.given.1.1.1.0)

@@ -24,11 +24,11 @@ overflow_add-at c =
 pub loop-i-preserved : goal.loop-i-preserved
 loop-i-preserved c =
     let space : c.args.at + notes_width ≤ length c.args.s.now = room c.has_room.ensures c.if-not-has_room.false-raw in
-    wrote_more (λ k. length-sequence _) (space) _ (c.args.at + c.loop-i.i * sequence_width) c.loop-i.invariant c.loop-i-test.true (omega arith)
+    wrote_more (λ k. length-sequence _) space _ (c.args.at + c.loop-i.i * sequence_width) c.loop-i.invariant c.loop-i-test.true (omega arith)
     (rw (note_at c.args.n.of c.loop-i.i) at c.put_sequence.ensures)
 
 pub returns : goal.returns
 unfolding notes_bytes notes_of
 returns c =
     let space : c.args.at + notes_width ≤ length c.args.s.now = room c.has_room.ensures c.if-not-has_room.false-raw in
-    wrote-all (λ k. length-sequence _) (space) c.loop-i.invariant c.loop-i-test.false
+    wrote-all (λ k. length-sequence _) space c.loop-i.invariant c.loop-i-test.false

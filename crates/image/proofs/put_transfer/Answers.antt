@@ -29,6 +29,6 @@ pub returns : goal.returns
 unfolding transfer_bytes transfer_of
 returns c =
     let space : c.args.at + transfer_width ≤ length c.args.s.now = room c.has_room.ensures c.if-not-has_room.false-raw in
-    laid_around _ _ _ (around _ _ _ _ _ _ _ _ _ _ _ _ refl refl (space) c.put_fields.ensures c.put_sequence.ensures c.put_fields-2.ensures)
+    laid_around _ _ _ (around _ _ _ _ _ _ _ _ _ _ _ _ refl refl space c.put_fields.ensures c.put_sequence.ensures c.put_fields-2.ensures)
     (piece refl (piece refl none))
     (piece (byte-number c.struct_known-6-1.given.1.1.1.0) (pair _ c.struct_known-6-1.given.1.1.1.1.0.0.1.0 (piece refl blank)))

@@ -12,7 +12,8 @@ use Rattle.rehearsal.proofs.Playing.{little, lining_none, lining_room, lining_mo
 use Rattle.rehearsal.proofs.put_rows.Goals as goal
 
 pub loop-k-init : goal.loop-k-init
-loop-k-init c = lining_none (begins c.args.sheet.now (get_or c.args.sheet.now 5 0) c.requires.sheet_value refl (c.shared_slice_known-1.given 5).fits) c.requires.begins (omega arith) (omega arith)
+loop-k-init c = lining_none (begins c.args.sheet.now (get_or c.args.sheet.now 5 0) c.requires.sheet_value refl (c.shared_slice_known-1.given 5).fits)
+    c.requires.begins (omega arith) (omega arith)
 
 pub shape_of-out-in_default : goal.shape_of-out-in_default
 shape_of-out-in_default c = c.loop-k.invariant.lines.long
@@ -24,8 +25,9 @@ returns-in_default c =
 
 pub put_row-t-requires : goal.put_row-t-requires
 put_row-t-requires c =
-    let step-read : steps_from c.args.sheet.now c.loop-k.from ≡ c.in-At.k ∷ steps_from c.args.sheet.now c.read_at-taken.result.at = taken_step c.args.sheet.now c.loop-k.from c.read_at-taken.result c.read_at-taken.ensures c.in-At.k c.in-At.is in
-    let row_there : c.loop-k.row + trace_row_width ≤ length c.args.rows.now = lining_room c.loop-k.invariant _ _ (step-read) in
+    let step-read : steps_from c.args.sheet.now c.loop-k.from ≡ c.in-At.k ∷ steps_from c.args.sheet.now c.read_at-taken.result.at =
+        taken_step c.args.sheet.now c.loop-k.from c.read_at-taken.result c.read_at-taken.ensures c.in-At.k c.in-At.is in
+    let row_there : c.loop-k.row + trace_row_width ≤ length c.args.rows.now = lining_room c.loop-k.invariant _ _ step-read in
     row_there
 
 pub overflow_add-delivered : goal.overflow_add-delivered
@@ -45,16 +47,19 @@ overflow_add-number c =
 
 pub overflow_add-row : goal.overflow_add-row
 overflow_add-row c =
-    let step-read : steps_from c.args.sheet.now c.loop-k.from ≡ c.in-At.k ∷ steps_from c.args.sheet.now c.read_at-taken.result.at = taken_step c.args.sheet.now c.loop-k.from c.read_at-taken.result c.read_at-taken.ensures c.in-At.k c.in-At.is in
-    let row_there : c.loop-k.row + trace_row_width ≤ length c.args.rows.now = lining_room c.loop-k.invariant _ _ (step-read) in
+    let step-read : steps_from c.args.sheet.now c.loop-k.from ≡ c.in-At.k ∷ steps_from c.args.sheet.now c.read_at-taken.result.at =
+        taken_step c.args.sheet.now c.loop-k.from c.read_at-taken.result c.read_at-taken.ensures c.in-At.k c.in-At.is in
+    let row_there : c.loop-k.row + trace_row_width ≤ length c.args.rows.now = lining_room c.loop-k.invariant _ _ step-read in
     omega (arith, row_there)
 
 pub loop-k-smaller : goal.loop-k-smaller
 loop-k-smaller c =
-    let step-read : steps_from c.args.sheet.now c.loop-k.from ≡ c.in-At.k ∷ steps_from c.args.sheet.now c.read_at-taken.result.at = taken_step c.args.sheet.now c.loop-k.from c.read_at-taken.result c.read_at-taken.ensures c.in-At.k c.in-At.is in
-    omega (arith, ap length (step-read))
+    let step-read : steps_from c.args.sheet.now c.loop-k.from ≡ c.in-At.k ∷ steps_from c.args.sheet.now c.read_at-taken.result.at =
+        taken_step c.args.sheet.now c.loop-k.from c.read_at-taken.result c.read_at-taken.ensures c.in-At.k c.in-At.is in
+    omega (arith, ap length step-read)
 
 pub loop-k-preserved : goal.loop-k-preserved
 loop-k-preserved c =
-    let step-read : steps_from c.args.sheet.now c.loop-k.from ≡ c.in-At.k ∷ steps_from c.args.sheet.now c.read_at-taken.result.at = taken_step c.args.sheet.now c.loop-k.from c.read_at-taken.result c.read_at-taken.ensures c.in-At.k c.in-At.is in
-    lining_more c.loop-k.invariant _ _ (step-read) _ c.put_row-t.result c.put_row-t.ensures
+    let step-read : steps_from c.args.sheet.now c.loop-k.from ≡ c.in-At.k ∷ steps_from c.args.sheet.now c.read_at-taken.result.at =
+        taken_step c.args.sheet.now c.loop-k.from c.read_at-taken.result c.read_at-taken.ensures c.in-At.k c.in-At.is in
+    lining_more c.loop-k.invariant _ _ step-read _ c.put_row-t.result c.put_row-t.ensures

@@ -6,4 +6,6 @@ pub returns-then-out-lt-BAD : goal.returns-then-out-lt-BAD
 returns-then-out-lt-BAD c = let both = bad_short c.args.out.now c.if-out-lt-BAD.true in record { answer = both.0; bytes = both.1 }
 
 pub returns : goal.returns
-returns c = let both = bad-laid c.args.out.now c.if-out-lt-BAD.false c.put_bad-length.result c.put_bad-length.new.out (c.put_bad-length.ensures.position, c.put_bad-length.ensures.bytes) in record { answer = both.0; bytes = both.1 }
+returns c = let both =
+    bad-laid c.args.out.now c.if-out-lt-BAD.false c.put_bad-length.result c.put_bad-length.new.out
+    (c.put_bad-length.ensures.position, c.put_bad-length.ensures.bytes) in record { answer = both.0; bytes = both.1 }

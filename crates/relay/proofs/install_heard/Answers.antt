@@ -25,7 +25,9 @@ returns-then-early c =
     )
 
 pub takes_install-later-requires : goal.takes_install-later-requires
-takes_install-later-requires c = rw c.stopped.ensures (stopped_shows (member c.args.o c.args.s && inside (part_of c.args.p).view c.args.w) (part_of c.args.p) c.args.o c.args.w (sym c.shows.ensures ∙ not-false _ c.if-not-shows.false-raw))
+takes_install-later-requires c =
+    rw c.stopped.ensures (stopped_shows (member c.args.o c.args.s && inside (part_of c.args.p).view c.args.w) (part_of c.args.p) c.args.o c.args.w
+    (sym c.shows.ensures ∙ not-false _ c.if-not-shows.false-raw))
 
 pub returns-then-not-is_member : goal.returns-then-not-is_member
 unfolding install_heard

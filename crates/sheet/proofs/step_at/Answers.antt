@@ -31,4 +31,4 @@ returns c =
     let kind = c.byte_at-kind.ensures ∙ kind_at c.args.b.now c.args.at in
     let id = c.byte_at-id.ensures ∙ id_at c.args.b.now c.args.at in
     let value = c.read_u32-value.ensures ∙ number_at_lem c.args.b.now c.args.at version1.value_bytes (value_at version1) in
-    (λ i. At (record { kind = kind i; id = id i; value = value i })) ∙ sym (step-some _ _ (space))
+    (λ i. At (record { kind = kind i; id = id i; value = value i })) ∙ sym (step-some _ _ space)

@@ -11,24 +11,31 @@ use Rattle.sheet.proofs.write.Goals as goal
 
 pub returns-then-unequal-mask : goal.returns-then-unequal-mask
 unfolding ruled_size
-returns-then-unequal-mask c = let e = bad c.args.buf.now c.args.mask c.args.kinds.now c.args.ids.now c.args.values.now c.if-unequal-mask.true in record { answer = (rw e, rw e); left = rw e }
+returns-then-unequal-mask c = let e =
+    bad c.args.buf.now c.args.mask c.args.kinds.now c.args.ids.now c.args.values.now c.if-unequal-mask.true in record { answer = (rw e, rw e); left = rw e }
 
 pub overflow_mul-size : goal.overflow_mul-size
 overflow_mul-size c =
-    let few_steps : length c.args.kinds.now ≤ version1.most_steps = few c.args.buf.now c.args.mask c.args.kinds.now c.args.ids.now c.args.values.now c.if-unequal-mask.false in
+    let few_steps : length c.args.kinds.now ≤ version1.most_steps =
+        few c.args.buf.now c.args.mask c.args.kinds.now c.args.ids.now c.args.values.now c.if-unequal-mask.false in
     omega (arith, few_steps)
 
 pub overflow_add-size : goal.overflow_add-size
 overflow_add-size c =
-    let few_steps : length c.args.kinds.now ≤ version1.most_steps = few c.args.buf.now c.args.mask c.args.kinds.now c.args.ids.now c.args.values.now c.if-unequal-mask.false in
+    let few_steps : length c.args.kinds.now ≤ version1.most_steps =
+        few c.args.buf.now c.args.mask c.args.kinds.now c.args.ids.now c.args.values.now c.if-unequal-mask.false in
     omega (arith, few_steps)
 
 pub returns-then-buf-size : goal.returns-then-buf-size
 unfolding ruled_size
-returns-then-buf-size c = let e = roomless c.args.buf.now c.args.mask c.args.kinds.now c.args.ids.now c.args.values.now c.if-unequal-mask.false c.if-buf-size.true in record { answer = (rw e, rw e); left = rw e }
+returns-then-buf-size c = let e =
+    roomless c.args.buf.now c.args.mask c.args.kinds.now c.args.ids.now c.args.values.now c.if-unequal-mask.false c.if-buf-size.true in record
+    { answer = (rw e, rw e); left = rw e }
 
 pub put_steps-requires : goal.put_steps-requires
-put_steps-requires c = let n = counted c.args.buf.now c.args.mask c.args.kinds.now c.args.ids.now c.args.values.now c.if-unequal-mask.false in record { n_value = sym n; n_in_bounds = search rules }
+put_steps-requires c = let n =
+    counted c.args.buf.now c.args.mask c.args.kinds.now c.args.ids.now c.args.values.now c.if-unequal-mask.false in record
+    { n_value = sym n; n_in_bounds = search rules }
 
 pub returns : goal.returns
 returns c =

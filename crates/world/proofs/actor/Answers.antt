@@ -11,7 +11,8 @@ unfolding actor_of
 returns-then-kind-id c = rw c.if-kind-id.true
 
 pub overflow_add-result : goal.overflow_add-result
-overflow_add-result c = omega (arith, ltb-true c.args.id 4 ((and-eq-true_iff (leb 4 c.args.kind && leb c.args.kind 5) (ltb c.args.id 4)).0 c.if-kind-id-2.true).1)
+overflow_add-result c =
+    omega (arith, ltb-true c.args.id 4 ((and-eq-true_iff (leb 4 c.args.kind && leb c.args.kind 5) (ltb c.args.id 4)).0 c.if-kind-id-2.true).1)
 
 pub returns-then-kind-id-2 : goal.returns-then-kind-id-2
 unfolding actor_of

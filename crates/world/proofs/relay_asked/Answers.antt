@@ -17,4 +17,5 @@ returns-then-kind-eq-LEAVE c = rw c.if-kind-eq-LEAVE.true c.leave_asked.ensures
 
 pub returns : goal.returns
 unfolding relay_asked
-returns c = rw (ne_eqb _ 1 c.if-kind-eq-JOIN.false, ne_eqb _ 2 c.if-kind-eq-LEAVE.false) (c.timer_rang.ensures ∙ ap (planned no_relay) (timer_fits _ c.requires.1))
+returns c = rw (ne_eqb _ 1 c.if-kind-eq-JOIN.false, ne_eqb _ 2 c.if-kind-eq-LEAVE.false)
+    (c.timer_rang.ensures ∙ ap (planned no_relay) (timer_fits _ c.requires.1))

@@ -12,4 +12,5 @@ returns-then-not-good_desk c = row_fails good_desk desk_bytes c.desk_at-d.ensure
 
 pub returns : goal.returns
 unfolding desk_good
-returns c = row_answers good_desk desk_bytes c.desk_at-d.ensures c.good_desk.ensures _ _ _ c.if-not-good_desk.false-raw (length-desk _) c.put_desk.ensures c.same_part.ensures
+returns c = row_answers good_desk desk_bytes c.desk_at-d.ensures c.good_desk.ensures _ _ _ c.if-not-good_desk.false-raw (length-desk _)
+    c.put_desk.ensures c.same_part.ensures

@@ -13,4 +13,5 @@ pub returns-then-count-eq0 : goal.returns-then-count-eq0
 returns-then-count-eq0 c = both_pass (yes c.above.ensures c.if-not-above.false-raw) (rw (none_test _ (sym c.count.ensures.0 ∙ c.if-count-eq0.true)))
 
 pub returns : goal.returns
-returns c = both_pass (yes c.above.ensures c.if-not-above.false-raw) (rw (some_test (views_of c.args.q) (omega (arith, c.count.ensures.0, c.if-count-eq0.false))) c.is_member.ensures)
+returns c = both_pass (yes c.above.ensures c.if-not-above.false-raw)
+    (rw (some_test (views_of c.args.q) (omega (arith, c.count.ensures.0, c.if-count-eq0.false))) c.is_member.ensures)

@@ -9,4 +9,5 @@ returns-then-not-asked c = fails _ 2 (no c.asked.ensures c.if-not-asked.true-raw
 
 pub returns : goal.returns
 unfolding good_place good_body
-returns c = pass _ _ (in_range c.ranges.tries) (pass _ _ (in_range c.ranges.c) (pass _ _ (yes c.asked.ensures c.if-not-asked.false-raw) (last _ c.good_pair.ensures)))
+returns c = pass _ _ (in_range c.ranges.tries)
+    (pass _ _ (in_range c.ranges.c) (pass _ _ (yes c.asked.ensures c.if-not-asked.false-raw) (last _ c.good_pair.ensures)))

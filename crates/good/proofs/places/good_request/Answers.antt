@@ -14,4 +14,5 @@ returns-then-not-good_update c = fails _ 2 (no c.good_update.ensures c.if-not-go
 
 pub returns : goal.returns
 unfolding good_place good_body
-returns c = pass _ _ (lt-ltb _ _ c.if-from-ge8.false) (pass _ _ (in_range c.ranges.c) (pass _ _ (yes c.good_update.ensures c.if-not-good_update.false-raw) (last _ c.is_member.ensures)))
+returns c = pass _ _ (lt-ltb _ _ c.if-from-ge8.false)
+    (pass _ _ (in_range c.ranges.c) (pass _ _ (yes c.good_update.ensures c.if-not-good_update.false-raw) (last _ c.is_member.ensures)))

@@ -11,8 +11,10 @@ use Rattle.good.proofs.relays.good_head_row.Goals as goal
 
 pub returns-then-not-good_head : goal.returns-then-not-good_head
 unfolding head_good
-returns-then-not-good_head c = row_fails (good_relay _) head_bytes (ap (λ h. relay_of h [] []) c.head_at-h.ensures) c.good_head.ensures _ c.if-not-good_head.true-raw
+returns-then-not-good_head c =
+    row_fails (good_relay _) head_bytes (ap (λ h. relay_of h [] []) c.head_at-h.ensures) c.good_head.ensures _ c.if-not-good_head.true-raw
 
 pub returns : goal.returns
 unfolding head_good
-returns c = row_answers (good_relay _) head_bytes (ap (λ h. relay_of h [] []) c.head_at-h.ensures) c.good_head.ensures _ _ _ c.if-not-good_head.false-raw (length_head _) c.put_head.ensures c.same_part.ensures
+returns c = row_answers (good_relay _) head_bytes (ap (λ h. relay_of h [] []) c.head_at-h.ensures) c.good_head.ensures _ _ _
+    c.if-not-good_head.false-raw (length_head _) c.put_head.ensures c.same_part.ensures

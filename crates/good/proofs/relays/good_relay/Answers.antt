@@ -9,8 +9,10 @@ returns-then-not-good_head_row c = both_fail _ (no c.good_head_row.ensures c.if-
 
 pub returns-then-not-good_table : goal.returns-then-not-good_table
 unfolding relay_good
-returns-then-not-good_table c = both_pass (yes c.good_head_row.ensures c.if-not-good_head_row.false-raw) (both_fail _ (no c.good_table.ensures c.if-not-good_table.true-raw))
+returns-then-not-good_table c =
+    both_pass (yes c.good_head_row.ensures c.if-not-good_head_row.false-raw) (both_fail _ (no c.good_table.ensures c.if-not-good_table.true-raw))
 
 pub returns : goal.returns
 unfolding relay_good
-returns c = both_pass (yes c.good_head_row.ensures c.if-not-good_head_row.false-raw) (both_pass (yes c.good_table.ensures c.if-not-good_table.false-raw) c.good_table-2.ensures)
+returns c = both_pass (yes c.good_head_row.ensures c.if-not-good_head_row.false-raw)
+    (both_pass (yes c.good_table.ensures c.if-not-good_table.false-raw) c.good_table-2.ensures)

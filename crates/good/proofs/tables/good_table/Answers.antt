@@ -23,17 +23,20 @@ loop-i-init c = passed_none
 
 pub overflow_mul-i : goal.overflow_mul-i
 overflow_mul-i c =
-    let inside : (c.loop-i.i * c.args.width ≤ (seat_count - 1) * generator_width) × ((seat_count - c.loop-i.i) * c.args.width ≤ generators_width) = (rows_inside _ (seat_count - 1) _ (omega arith) (omega arith), rows_inside _ seat_count _ (omega arith) (omega arith)) in
+    let inside : (c.loop-i.i * c.args.width ≤ (seat_count - 1) * generator_width) × ((seat_count - c.loop-i.i) * c.args.width ≤ generators_width) =
+        (rows_inside _ (seat_count - 1) _ (omega arith) (omega arith), rows_inside _ seat_count _ (omega arith) (omega arith)) in
     let h = inside in search rules
 
 pub overflow_add-at : goal.overflow_add-at
 overflow_add-at c =
-    let inside : (c.loop-i.i * c.args.width ≤ (seat_count - 1) * generator_width) × ((seat_count - c.loop-i.i) * c.args.width ≤ generators_width) = (rows_inside _ (seat_count - 1) _ (omega arith) (omega arith), rows_inside _ seat_count _ (omega arith) (omega arith)) in
+    let inside : (c.loop-i.i * c.args.width ≤ (seat_count - 1) * generator_width) × ((seat_count - c.loop-i.i) * c.args.width ≤ generators_width) =
+        (rows_inside _ (seat_count - 1) _ (omega arith) (omega arith), rows_inside _ seat_count _ (omega arith) (omega arith)) in
     let h = inside in search rules
 
 pub overflow_mul-i-in-loop-i : goal.overflow_mul-i-in-loop-i
 overflow_mul-i-in-loop-i c =
-    let inside : (c.loop-i.i * c.args.width ≤ (seat_count - 1) * generator_width) × ((seat_count - c.loop-i.i) * c.args.width ≤ generators_width) = (rows_inside _ (seat_count - 1) _ (omega arith) (omega arith), rows_inside _ seat_count _ (omega arith) (omega arith)) in
+    let inside : (c.loop-i.i * c.args.width ≤ (seat_count - 1) * generator_width) × ((seat_count - c.loop-i.i) * c.args.width ≤ generators_width) =
+        (rows_inside _ (seat_count - 1) _ (omega arith) (omega arith), rows_inside _ seat_count _ (omega arith) (omega arith)) in
     let h = inside in search rules
 
 pub returns-then-is_zero : goal.returns-then-is_zero
@@ -44,11 +47,13 @@ returns-then-is_zero c =
 
 pub returns-then-not-good_place : goal.returns-then-not-good_place
 unfolding filled_good
-returns-then-not-good_place c = passed_fails c.loop-i.invariant (omega arith) (fails (decides c.is_zero.ensures c.if-is_zero.false c.good_place.ensures) c.if-not-good_place.true-raw)
+returns-then-not-good_place c =
+    passed_fails c.loop-i.invariant (omega arith) (fails (decides c.is_zero.ensures c.if-is_zero.false c.good_place.ensures) c.if-not-good_place.true-raw)
 
 pub loop-i-preserved : goal.loop-i-preserved
 unfolding filled_good
-loop-i-preserved c = passed_more c.loop-i.invariant (omega arith) (holds (decides c.is_zero.ensures c.if-is_zero.false c.good_place.ensures) c.if-not-good_place.false-raw)
+loop-i-preserved c = passed_more c.loop-i.invariant (omega arith)
+    (holds (decides c.is_zero.ensures c.if-is_zero.false c.good_place.ensures) c.if-not-good_place.false-raw)
 
 pub returns : goal.returns
 returns c = passed_all c.loop-i.invariant (omega arith)

@@ -17,7 +17,8 @@ use Rattle.good.proofs.tables.good_table.Given as goal
 -- where all is zero from place i on, it is from each later place on
 pub zero_later : (n : ℕ) (l : List ℕ) (o i k : ℕ) → i ≤ k → all_zero l (o + i * n) ((8 - i) * n) ≡ true → all_zero l (o + k * n) ((8 - k) * n) ≡ true
 unfolding all_zero
-zero_later n l o i k h e = all_every ((8 - k) * n) _ (λ j p. rw (at j) (all_at ((8 - i) * n) ((k - i) * n + j) (λ m. eqb (get_or l (o + i * n + m) 0) 0) e (inside j p)))
+zero_later n l o i k h e =
+    all_every ((8 - k) * n) _ (λ j p. rw (at j) (all_at ((8 - i) * n) ((k - i) * n + j) (λ m. eqb (get_or l (o + i * n + m) 0) 0) e (inside j p)))
   where
     times : (a b c : ℕ) → a ≡ b + c → a * n ≡ b * n + c * n
     times a b c q = ap (λ (x : ℕ). x * n) q ∙ add-mul b c n

@@ -14,7 +14,8 @@ returns-then-generators c = rw c.if-generators.true (ap not (ap₂ eqb c.read_u1
 
 pub returns-then-read_u16 : goal.returns-then-read_u16
 unfolding other_row transfer_at
-returns-then-read_u16 c = rw c.if-generators.false (ap not (both_fail _ (ne_eqb _ _ (λ z. c.if-read_u16.true (c.read_u16-2.ensures ∙ z ∙ sym c.read_u16-3.ensures)))))
+returns-then-read_u16 c =
+    rw c.if-generators.false (ap not (both_fail _ (ne_eqb _ _ (λ z. c.if-read_u16.true (c.read_u16-2.ensures ∙ z ∙ sym c.read_u16-3.ensures)))))
 
 pub returns : goal.returns
 unfolding other_row transfer_at

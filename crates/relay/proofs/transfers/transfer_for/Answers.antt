@@ -12,8 +12,11 @@ returns-then-not-p c = c.fresh.ensures ∙ rw (not-true c.args.p.transfers c.if-
 
 pub returns-then-not-shows_move : goal.returns-then-not-shows_move
 unfolding part_of relay_of
-returns-then-not-shows_move c = c.fresh-then-not-shows_move.ensures ∙ sym (transfer_shown c.args.p.transfers _ _ _ (transfer_of c.args.p.transfer) (not-false _ c.if-not-p.false) (sym c.shows_move.ensures ∙ not-true _ c.if-not-shows_move.true-raw))
+returns-then-not-shows_move c = c.fresh-then-not-shows_move.ensures
+    ∙ sym (transfer_shown c.args.p.transfers _ _ _ (transfer_of c.args.p.transfer) (not-false _ c.if-not-p.false)
+    (sym c.shows_move.ensures ∙ not-true _ c.if-not-shows_move.true-raw))
 
 pub returns : goal.returns
 unfolding part_of relay_of
-returns c = sym (transfer_shown c.args.p.transfers _ _ _ (transfer_of c.args.p.transfer) (not-false _ c.if-not-p.false) (sym c.shows_move.ensures ∙ not-false _ c.if-not-shows_move.false-raw))
+returns c = sym (transfer_shown c.args.p.transfers _ _ _ (transfer_of c.args.p.transfer) (not-false _ c.if-not-p.false)
+    (sym c.shows_move.ensures ∙ not-false _ c.if-not-shows_move.false-raw))

@@ -19,10 +19,12 @@ shape_of-w-then-view-read_u16 c = ap length c.put_kept.ensures ∙ placed-length
 pub returns-then-view-read_u16 : goal.returns-then-view-read_u16
 returns-then-view-read_u16 c h =
     c.put_kept.ensures
-    ∙ moved-written c.args.w.now c.requires.0 c.args.s c.requires.1 c.args.part (λ e. c.if-view-read_u16.true (e ∙ sym c.read_u16.ensures)) (map transfer_of c.kept_transfers-kept.result.of) c.kept_transfers-kept.ensures
+    ∙ moved-written c.args.w.now c.requires.0 c.args.s c.requires.1 c.args.part (λ e. c.if-view-read_u16.true (e ∙ sym c.read_u16.ensures))
+        (map transfer_of c.kept_transfers-kept.result.of) c.kept_transfers-kept.ensures
 
 pub returns-then-not-part : goal.returns-then-not-part
-returns-then-not-part c h = stays_written c.args.w.now c.requires.0 c.args.s c.requires.1 c.args.part (c.if-view-read_u16.false ∙ c.read_u16.ensures) (not-true _ c.if-not-part.true)
+returns-then-not-part c h =
+    stays_written c.args.w.now c.requires.0 c.args.s c.requires.1 c.args.part (c.if-view-read_u16.false ∙ c.read_u16.ensures) (not-true _ c.if-not-part.true)
 
 pub shape_of-w : goal.shape_of-w
 shape_of-w c = ap length c.put_transfer.ensures ∙ placed-length _ _ _
