@@ -162,11 +162,11 @@ saying l = l.answer ∷ fields l.report.event l.report.who
 module _ (W : World) where
   left_buffer : (o : Outcome) → (left (image W) o).buffer ≡ image (after W o)
   left_buffer (refusal x) = refl
-  left_buffer (done next e a b c) = refl
+  left_buffer (done later e a b c) = refl
 
   left_saying : (o : Outcome) → saying (left (image W) o) ≡ outcome_line o
   left_saying (refusal x) = refl
-  left_saying (done next e a b c) = refl
+  left_saying (done later e a b c) = refl
 
 module _ (f : Program) (n : ℕ) (promised : PromisedAt f n) (W : World) (good : well_formed W ≡ true) (k : Step) where
   leaves-is : f.leaves n (image W) k ≡ image (after W (stepped W k))
