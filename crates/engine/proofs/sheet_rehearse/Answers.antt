@@ -15,7 +15,7 @@ pub returns-then-done-ne0 : goal.returns-then-done-ne0
 returns-then-done-ne0 c =
     let both = turned_away c.args.sheet.now c.args.world.now c.args.out.now c.args.told.now c.if-told-lt-LENGTH.false
     c.rehearse-done.result c.rehearse-done.new.world c.rehearse-done.new.out
-        (c.rehearse-done.ensures.answer, (c.rehearse-done.ensures.last, c.rehearse-done.ensures.printed))
+    (c.rehearse-done.ensures.answer, (c.rehearse-done.ensures.last, c.rehearse-done.ensures.printed))
     c.if-done-ne0.true in record { answer = both.0; last = both.1.0; printed = both.1.1.0; length = both.1.1.1 }
 
 pub overflow_cast-done : goal.overflow_cast-done
@@ -27,5 +27,5 @@ pub returns : goal.returns
 returns c =
     let both = rehearsed c.args.sheet.now c.args.world.now c.args.out.now c.args.told.now c.if-told-lt-LENGTH.false
     c.rehearse-done.result c.rehearse-done.new.world c.rehearse-done.new.out
-        (c.rehearse-done.ensures.answer, (c.rehearse-done.ensures.last, c.rehearse-done.ensures.printed))
+    (c.rehearse-done.ensures.answer, (c.rehearse-done.ensures.last, c.rehearse-done.ensures.printed))
     c.if-done-ne0.false _ c.put_length.ensures in record { answer = both.0; last = both.1.0; printed = both.1.1.0; length = both.1.1.1 }

@@ -15,4 +15,4 @@ returns c =
     laid _ _ c.put_fields.ensures
     (piece (simp flag-number) (piece (byte-number number ∙ ap byte c.phase_number-number.ensures) (piece refl (piece refl
     (pair _ c.struct_known-9-1.given.1.1.1.1.0.0.1.0
-        (piece (byte-number c.struct_known-9-1.given.1.1.1.1.1.0) (pair _ c.struct_known-9-1.given.1.1.1.1.1.1.0.0.1.0 (piece (simp flag-number) blank))))))))
+    (piece (byte-number c.struct_known-9-1.given.1.1.1.1.1.0) (pair _ c.struct_known-9-1.given.1.1.1.1.1.1.0.0.1.0 (piece (simp flag-number) blank))))))))

@@ -10,4 +10,4 @@ unfolding head_bytes relay_of
 returns c =
     laid _ _ c.put_fields.ensures
     (piece (simp flag-number)
-        (piece (simp flag-number) (piece (simp flag-number) (piece refl (piece refl (piece refl (pair _ c.struct_known-8-1.given.0.1.0 blank)))))))
+    (piece (simp flag-number) (piece (simp flag-number) (piece refl (piece refl (piece refl (pair _ c.struct_known-8-1.given.0.1.0 blank)))))))

@@ -31,5 +31,5 @@ returns c =
     let space : c.args.at + message_width ≤ length c.args.s.now = room c.has_room.ensures c.if-not-has_room.false-raw in
     laid_around _ _ _ (around _ _ _ _ _ _ _ _ _ _ _ _ refl refl space c.put_fields.ensures c.put_sequence.ensures c.put_fields-2.ensures)
     (piece (byte-number c.struct_known-9-1.given.0)
-        (piece (byte-number c.struct_known-3-1.given.0) (piece (byte-number c.struct_known-3-1.given.1.0) (piece refl (piece refl (piece refl none))))))
+    (piece (byte-number c.struct_known-3-1.given.0) (piece (byte-number c.struct_known-3-1.given.1.0) (piece refl (piece refl (piece refl none))))))
     (pair _ c.struct_known-9-1.given.1.1.1.1.1.0.0.1.0 (piece refl blank))

@@ -33,6 +33,11 @@ returns-then-kind-eq-STATE c = rw (c.says-then-kind-eq-STATE.ensures, c.empty-no
 pub returns : goal.returns
 unfolding body_of body_in
 returns c = c.plain_try.ensures
-    ∙ rw (ne_eqb c.args.b.kind 1 c.if-kind-eq-REQUEST.false, ne_eqb c.args.b.kind 2 c.if-kind-eq-VIEW.false,
-    ne_eqb c.args.b.kind 3 c.if-kind-eq-PROPOSAL.false, ne_eqb c.args.b.kind 4 c.if-kind-eq-CONVERGED.false,
-    ne_eqb c.args.b.kind 5 c.if-kind-eq-INSTALL.false, ne_eqb c.args.b.kind 6 c.if-kind-eq-STATE.false)
+    ∙ rw (
+      ne_eqb c.args.b.kind 1 c.if-kind-eq-REQUEST.false,
+      ne_eqb c.args.b.kind 2 c.if-kind-eq-VIEW.false,
+      ne_eqb c.args.b.kind 3 c.if-kind-eq-PROPOSAL.false,
+      ne_eqb c.args.b.kind 4 c.if-kind-eq-CONVERGED.false,
+      ne_eqb c.args.b.kind 5 c.if-kind-eq-INSTALL.false,
+      ne_eqb c.args.b.kind 6 c.if-kind-eq-STATE.false,
+    )

@@ -21,5 +21,12 @@ returns-then-kind-eq-PAIR_REPLY c = rw (c.says-then-kind-eq-PAIR_REPLY.ensures, 
 
 pub returns : goal.returns
 unfolding made_with
-returns c = rw (c.says-2.ensures, c.fresh-zero.ensures, c.empty-none.ensures, ne_eqb c.args.b.kind 7 c.if-kind-eq-GET.false,
-    ne_eqb c.args.b.kind 8 c.if-kind-eq-PUT.false, ne_eqb c.args.b.kind 9 c.if-kind-eq-VIEW_REPLY.false, ne_eqb c.args.b.kind 10 c.if-kind-eq-PAIR_REPLY.false)
+returns c = rw (
+  c.says-2.ensures,
+  c.fresh-zero.ensures,
+  c.empty-none.ensures,
+  ne_eqb c.args.b.kind 7 c.if-kind-eq-GET.false,
+  ne_eqb c.args.b.kind 8 c.if-kind-eq-PUT.false,
+  ne_eqb c.args.b.kind 9 c.if-kind-eq-VIEW_REPLY.false,
+  ne_eqb c.args.b.kind 10 c.if-kind-eq-PAIR_REPLY.false,
+)

@@ -20,9 +20,14 @@ pub loop-i-smaller : goal.loop-i-smaller
 loop-i-smaller c = omega arith
 
 pub loop-i-preserved : goal.loop-i-preserved
-loop-i-preserved c = (omega arith,
-    (omega arith, λ s e. shifted_more _ s _ _ _ _ (omega arith) (let full : length c.args.rest.of ≡ most = search rules in omega arith) (omega arith)
-    (c.loop-i.invariant.1.1 s e)))
+loop-i-preserved c = (
+  omega arith,
+  (
+    omega arith,
+    λ s e. shifted_more _ s _ _ _ _ (omega arith) (let full : length c.args.rest.of ≡ most = search rules in omega arith) (omega arith)
+        (c.loop-i.invariant.1.1 s e),
+  ),
+)
 
 pub returns : goal.returns
 unfolding all_sent

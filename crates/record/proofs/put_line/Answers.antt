@@ -24,4 +24,4 @@ pub returns : goal.returns
 returns c =
     let tail = printing_more (10 ∷ []) _ [] c.loop-i.invariant (tail_end _ _ c.loop-i-test.false) (c.put-2.ensures.position, c.put-2.ensures.bytes) in
     let whole = printed_then _ _ (printed-first _ (c.put_number-p.ensures.position, c.put_number-p.ensures.bytes)) (omega arith)
-        (printing_all tail refl) in let both = printed_as _ (line_first _ c.if-numbers-eq0.false) whole in record { position = both.0; bytes = both.1 }
+    (printing_all tail refl) in let both = printed_as _ (line_first _ c.if-numbers-eq0.false) whole in record { position = both.0; bytes = both.1 }

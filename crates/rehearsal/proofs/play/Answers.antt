@@ -26,9 +26,9 @@ slice_bounds-trace-end c = zeros 80000
 pub put_rows-t-requires : goal.put_rows-t-requires
 put_rows-t-requires c =
     let ran : (c.trace.new.world ≡ image (last_world (start (get_or c.args.sheet.now 5 0)) (steps_from c.args.sheet.now 6)))
-        × Begins c.trace.new.rows (trace_rows (outcomes (start (get_or c.args.sheet.now 5 0)) (steps_from c.args.sheet.now 6))) =
-        trace_runs c.args.sheet.now (get_or c.args.sheet.now 5 0) c.requires.1.0 refl c.args.w.now (replicate 80000 0) c.trace.new.world
-        c.trace.new.rows c.requires.0
+    × Begins c.trace.new.rows (trace_rows (outcomes (start (get_or c.args.sheet.now 5 0)) (steps_from c.args.sheet.now 6))) =
+    trace_runs c.args.sheet.now (get_or c.args.sheet.now 5 0) c.requires.1.0 refl c.args.w.now (replicate 80000 0) c.trace.new.world
+    c.trace.new.rows c.requires.0
     (omega (arith, zeros 80000)) (c.trace.ensures.last, c.trace.ensures.rows) in record { sheet_value = c.requires.1.0; begins = ran.1 }
 
 pub put_totals-requires : goal.put_totals-requires
@@ -41,9 +41,9 @@ put_totals-requires c =
 pub returns : goal.returns
 returns c =
     let ran : (c.trace.new.world ≡ image (last_world (start (get_or c.args.sheet.now 5 0)) (steps_from c.args.sheet.now 6)))
-        × Begins c.trace.new.rows (trace_rows (outcomes (start (get_or c.args.sheet.now 5 0)) (steps_from c.args.sheet.now 6))) =
-        trace_runs c.args.sheet.now (get_or c.args.sheet.now 5 0) c.requires.1.0 refl c.args.w.now (replicate 80000 0) c.trace.new.world
-        c.trace.new.rows c.requires.0
+    × Begins c.trace.new.rows (trace_rows (outcomes (start (get_or c.args.sheet.now 5 0)) (steps_from c.args.sheet.now 6))) =
+    trace_runs c.args.sheet.now (get_or c.args.sheet.now 5 0) c.requires.1.0 refl c.args.w.now (replicate 80000 0) c.trace.new.world
+    c.trace.new.rows c.requires.0
     (omega (arith, zeros 80000)) (c.trace.ensures.last, c.trace.ensures.rows) in
     let small : c.args.mask < 256 = search rules in
     let near : length c.args.out.now ≤ far = omega arith in

@@ -14,7 +14,7 @@ pub returns-then-s : goal.returns-then-s
 returns-then-s c =
     let both = left-bad c.args.sheet.now c.args.world.now c.args.out.now c.if-world-ne-WORLD_WIDTH.false c.check-s.result c.check-s.ensures c.if-s.true
     c.refuse_sheet.result c.refuse_sheet.new.out (c.refuse_sheet.ensures.answer, c.refuse_sheet.ensures.bytes) in record
-        { answer = both.0; last = both.1.0; printed = both.1.1 }
+    { answer = both.0; last = both.1.0; printed = both.1.1 }
 
 pub overflow_mul-s : goal.overflow_mul-s
 overflow_mul-s c =
@@ -37,6 +37,6 @@ play-length-requires c = (c.if-world-ne-WORLD_WIDTH.false, found_facts c.args.sh
 pub returns : goal.returns
 returns c =
     let small : c.check-s.result.mask < 256 = search rules in let both =
-        left_good c.args.sheet.now c.args.world.now c.args.out.now c.if-world-ne-WORLD_WIDTH.false c.check-s.result c.check-s.ensures c.if-s.false
+    left_good c.args.sheet.now c.args.world.now c.args.out.now c.if-world-ne-WORLD_WIDTH.false c.check-s.result c.check-s.ensures c.if-s.false
     c.if-out-s.false small _ _ c.play-length.result (c.play-length.ensures.position, (c.play-length.ensures.bytes, c.play-length.ensures.world))
-        in record { answer = both.0; last = both.1.0; printed = both.1.1 }
+    in record { answer = both.0; last = both.1.0; printed = both.1.1 }

@@ -19,7 +19,7 @@ pub returns-then-count-eq0 : goal.returns-then-count-eq0
 unfolding enters transfer_of event_of
 returns-then-count-eq0 c =
     let n : none (onward (transfer_of c.args.t)) ≡ true = ap (λ (l : List ℕ). none l) (sym c.onward-onward.ensures)
-        ∙ none_test (views_of c.onward-onward.result) (omega (arith, c.count.ensures.0, c.if-count-eq0.true)) in
+    ∙ none_test (views_of c.onward-onward.result) (omega (arith, c.count.ensures.0, c.if-count-eq0.true)) in
     c.tells.ensures ∙ rw (c.moved.ensures, n)
 
 pub at_generator-requires : goal.at_generator-requires
@@ -31,7 +31,7 @@ unfolding enters transfer_of with_transfers
 returns c =
     let t = transfer_of c.args.t in
     let n : none (onward (transfer_of c.args.t)) ≡ false = ap (λ (l : List ℕ). none l) (sym c.onward-onward.ensures)
-        ∙ some_test (views_of c.onward-onward.result) (omega (arith, c.count.ensures.0, c.if-count-eq0.false)) in
+    ∙ some_test (views_of c.onward-onward.result) (omega (arith, c.count.ensures.0, c.if-count-eq0.false)) in
     let g = generator_for t.new (part_of c.args.p).generators in
     let e : turn_of c.proposes-turn.result ≡ turned (proposes g (onward t)) = c.proposes-turn.ensures ∙ rw (
       c.generator_for.ensures,

@@ -57,4 +57,4 @@ returns c =
       ne_eqb c.args.b.kind 8 c.if-kind-eq-PUT.false,
     )
     (ap (planned no_relay)
-        (sym (replies c.args.s (part_of c.args.p) c.args.from c.args.b.tries c.args.b.first c.args.b.pair (eqb c.args.b.kind 9) (eqb c.args.b.kind 10))))
+    (sym (replies c.args.s (part_of c.args.p) c.args.from c.args.b.tries c.args.b.first c.args.b.pair (eqb c.args.b.kind 9) (eqb c.args.b.kind 10))))

@@ -27,7 +27,7 @@ pub returns-then-within : goal.returns-then-within
 unfolding join_answer join_asked part_of relay_of
 returns-then-within c =
     let u : within (joins c.args.s) c.args.p.head.known ≡ true =
-        rw (one_shl c.args.s 16 (omega (arith, c.if-s-ge8.false))) at (sym c.within.ensures ∙ c.if-within.true) in
+    rw (one_shl c.args.s 16 (omega (arith, c.if-s-ge8.false))) at (sym c.within.ensures ∙ c.if-within.true) in
     c.refuses-then-within.ensures not_now refl ∙ rw (lt-ltb c.args.s 8 c.if-s-ge8.false, c.if-p.false, u)
 
 pub returns : goal.returns

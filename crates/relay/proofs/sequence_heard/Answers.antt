@@ -21,7 +21,7 @@ pub returns-then-converged : goal.returns-then-converged
 returns-then-converged c =
     let shown : shows_view c.args.v (part_of c.args.p) ≡ true = sym c.shows_view.ensures ∙ not-false _ c.if-not-shows_view.false-raw in
     c.at_generator.ensures _ ((converged-leaves _ _ _).for ∙ view_of _ _) (rw c.generator_for-g.ensures at c.converged_heard.ensures)
-        ∙ rw (shown, c.if-converged.true)
+    ∙ rw (shown, c.if-converged.true)
 
 pub at_generator-requires-2 : goal.at_generator-requires-2
 at_generator-requires-2 c =

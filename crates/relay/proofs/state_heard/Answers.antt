@@ -32,7 +32,7 @@ gathers-requires c = c.if-from-ge8.false
 pub tested-requires : goal.tested-requires
 tested-requires c =
     let x = gathered-pair c.gathers.result c.transfer_for.result c.args.o c.args.w (part_of c.args.p).transfers c.transfer_for.ensures _ _ _
-        c.gathers.ensures in
+    c.gathers.ensures in
     rw (x.0, x.1) (sym c.shows.ensures ∙ not-false _ c.if-not-shows.false-raw)
 
 pub returns : goal.returns

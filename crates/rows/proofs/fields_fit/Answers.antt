@@ -15,7 +15,7 @@ pub returns-then-not-has_room : goal.returns-then-not-has_room
 returns-then-not-has_room c =
     let inside = ends_inside c.loop-i.invariant c.loop-i-test.true c.byte_at-w.ensures in
     sym (lt-leb (c.args.at + sum c.args.widths.now) c.args.len
-        (omega (arith, (leb-false _ _ (sym c.has_room.ensures ∙ not-true _ c.if-not-has_room.true-raw)))))
+    (omega (arith, (leb-false _ _ (sym c.has_room.ensures ∙ not-true _ c.if-not-has_room.true-raw)))))
 
 pub overflow_add-end : goal.overflow_add-end
 overflow_add-end c = omega (arith, (room c.has_room.ensures c.if-not-has_room.false-raw))

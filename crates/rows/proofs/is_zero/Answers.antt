@@ -61,8 +61,11 @@ returns-then-not-zero_eight c =
     (sym (not-true _ c.if-not-zero_eight.true-raw) ∙ c.zero_eight.ensures)
 
 pub loop-i-preserved : goal.loop-i-preserved
-loop-i-preserved c = (part_more c.args.s.now c.args.at c.args.n c.loop-i.i 8 c.loop-i.invariant.0 (omega arith)
-    (sym (not-false _ c.if-not-zero_eight.false-raw) ∙ c.zero_eight.ensures), omega arith)
+loop-i-preserved c = (
+  part_more c.args.s.now c.args.at c.args.n c.loop-i.i 8 c.loop-i.invariant.0 (omega arith)
+      (sym (not-false _ c.if-not-zero_eight.false-raw) ∙ c.zero_eight.ensures),
+  omega arith,
+)
 
 pub loop-i-2-init : goal.loop-i-2-init
 loop-i-2-init c = c.loop-i.invariant

@@ -35,8 +35,11 @@ pub loop-i-init : goal.loop-i-init
 loop-i-init c = record { ends = ends_none; long = refl; is = refl }
 
 pub overflow_add-p : goal.overflow_add-p
-overflow_add-p c = omega (arith, ends_inside c.loop-i.invariant.ends c.loop-i-test.true c.byte_at-w.ensures,
-    (room c.fields_fit.ensures c.if-not-fields_fit.false-raw))
+overflow_add-p c = omega (
+  arith,
+  ends_inside c.loop-i.invariant.ends c.loop-i-test.true c.byte_at-w.ensures,
+  (room c.fields_fit.ensures c.if-not-fields_fit.false-raw),
+)
 
 pub loop-i-preserved : goal.loop-i-preserved
 loop-i-preserved c = left_less c.loop-i.invariant _ c.loop-i-test.true ((room c.fields_fit.ensures c.if-not-fields_fit.false-raw)) c.byte_at-w.ensures

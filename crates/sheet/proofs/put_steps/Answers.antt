@@ -11,21 +11,21 @@ loop-i-init c = left-all
 pub bounds-kinds-i : goal.bounds-kinds-i
 bounds-kinds-i c =
     let inside : (c.loop-i.i < length c.args.kinds.now) × (c.loop-i.i < length c.args.ids.now) × (c.loop-i.i < length c.args.values.now) = let n =
-        listed-length c.args.kinds.now c.args.ids.now c.args.values.now in
+    listed-length c.args.kinds.now c.args.ids.now c.args.values.now in
     (omega (arith, c.requires.n_value), omega (arith, c.requires.n_value), omega (arith, c.requires.n_value)) in
     (inside).0
 
 pub bounds-ids-i : goal.bounds-ids-i
 bounds-ids-i c =
     let inside : (c.loop-i.i < length c.args.kinds.now) × (c.loop-i.i < length c.args.ids.now) × (c.loop-i.i < length c.args.values.now) = let n =
-        listed-length c.args.kinds.now c.args.ids.now c.args.values.now in
+    listed-length c.args.kinds.now c.args.ids.now c.args.values.now in
     (omega (arith, c.requires.n_value), omega (arith, c.requires.n_value), omega (arith, c.requires.n_value)) in
     (inside).1
 
 pub bounds-values-i : goal.bounds-values-i
 bounds-values-i c =
     let inside : (c.loop-i.i < length c.args.kinds.now) × (c.loop-i.i < length c.args.ids.now) × (c.loop-i.i < length c.args.values.now) = let n =
-        listed-length c.args.kinds.now c.args.ids.now c.args.values.now in
+    listed-length c.args.kinds.now c.args.ids.now c.args.values.now in
     (omega (arith, c.requires.n_value), omega (arith, c.requires.n_value), omega (arith, c.requires.n_value)) in
     (inside).2
 

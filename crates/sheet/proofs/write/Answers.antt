@@ -17,13 +17,13 @@ returns-then-unequal-mask c = let e =
 pub overflow_mul-size : goal.overflow_mul-size
 overflow_mul-size c =
     let few_steps : length c.args.kinds.now ≤ version1.most_steps =
-        few c.args.buf.now c.args.mask c.args.kinds.now c.args.ids.now c.args.values.now c.if-unequal-mask.false in
+    few c.args.buf.now c.args.mask c.args.kinds.now c.args.ids.now c.args.values.now c.if-unequal-mask.false in
     omega (arith, few_steps)
 
 pub overflow_add-size : goal.overflow_add-size
 overflow_add-size c =
     let few_steps : length c.args.kinds.now ≤ version1.most_steps =
-        few c.args.buf.now c.args.mask c.args.kinds.now c.args.ids.now c.args.values.now c.if-unequal-mask.false in
+    few c.args.buf.now c.args.mask c.args.kinds.now c.args.ids.now c.args.values.now c.if-unequal-mask.false in
     omega (arith, few_steps)
 
 pub returns-then-buf-size : goal.returns-then-buf-size

@@ -17,53 +17,53 @@ pub alive_at-requires : goal.alive_at-requires
 unfolding message_of
 alive_at-requires c =
     let held : place_at (world_at c.args.w.now) c.args.p ≡ waiting (message_of c.message_at-m.result) =
-        place-holds c.args.w.now c.requires.0 c.args.p c.requires.1.0 c.message_at-m.result c.requires.1.1 (message-read _ _ c.message_at-m.ensures) in
+    place-holds c.args.w.now c.requires.0 c.args.p c.requires.1.0 c.message_at-m.result c.requires.1.1 (message-read _ _ c.message_at-m.ensures) in
     let below : c.message_at-m.result.to < 12 =
-        to_below (message_of c.message_at-m.result) _ (held_good c.args.w.now c.requires.0 c.args.p c.requires.1.0 (message_of c.message_at-m.result) held) in
+    to_below (message_of c.message_at-m.result) _ (held_good c.args.w.now c.requires.0 c.args.p c.requires.1.0 (message_of c.message_at-m.result) held) in
     below
 
 pub returns-then-not-alive_at : goal.returns-then-not-alive_at
 unfolding message_of
 returns-then-not-alive_at c =
     let held : place_at (world_at c.args.w.now) c.args.p ≡ waiting (message_of c.message_at-m.result) =
-        place-holds c.args.w.now c.requires.0 c.args.p c.requires.1.0 c.message_at-m.result c.requires.1.1 (message-read _ _ c.message_at-m.ensures) in
+    place-holds c.args.w.now c.requires.0 c.args.p c.requires.1.0 c.message_at-m.result c.requires.1.1 (message-read _ _ c.message_at-m.ensures) in
     c.refuses.ensures dead c.args.w.now refl
-        ∙ held-dead c.args.w.now c.requires.0 c.args.p c.requires.1.0 (message_of c.message_at-m.result) held
-        (sym c.alive_at.ensures ∙ not-true _ c.if-not-alive_at.true-raw)
+    ∙ held-dead c.args.w.now c.requires.0 c.args.p c.requires.1.0 (message_of c.message_at-m.result) held
+    (sym c.alive_at.ensures ∙ not-true _ c.if-not-alive_at.true-raw)
 
 pub to_relay-requires : goal.to_relay-requires
 to_relay-requires c =
     let held : place_at (world_at c.args.w.now) c.args.p ≡ waiting (message_of c.message_at-m.result) =
-        place-holds c.args.w.now c.requires.0 c.args.p c.requires.1.0 c.message_at-m.result c.requires.1.1 (message-read _ _ c.message_at-m.ensures) in
+    place-holds c.args.w.now c.requires.0 c.args.p c.requires.1.0 c.message_at-m.result c.requires.1.1 (message-read _ _ c.message_at-m.ensures) in
     (c.requires.0, (c.requires.1.0, (held, c.if-m-lt8.true)))
 
 pub returns-then-m-lt8 : goal.returns-then-m-lt8
 unfolding message_of
 returns-then-m-lt8 c =
     let held : place_at (world_at c.args.w.now) c.args.p ≡ waiting (message_of c.message_at-m.result) =
-        place-holds c.args.w.now c.requires.0 c.args.p c.requires.1.0 c.message_at-m.result c.requires.1.1 (message-read _ _ c.message_at-m.ensures) in
+    place-holds c.args.w.now c.requires.0 c.args.p c.requires.1.0 c.message_at-m.result c.requires.1.1 (message-read _ _ c.message_at-m.ensures) in
     let heard : left c.args.w.now (delivers (freed (world_at c.args.w.now) c.args.p) (message_of c.message_at-m.result))
-        ≡ left c.args.w.now (acts (world_at c.args.w.now) (steps.deliver c.args.p)) =
-        held-alive c.args.w.now c.requires.0 c.args.p c.requires.1.0 (message_of c.message_at-m.result) held
-        (sym c.alive_at.ensures ∙ not-false _ c.if-not-alive_at.false-raw) in
+    ≡ left c.args.w.now (acts (world_at c.args.w.now) (steps.deliver c.args.p)) =
+    held-alive c.args.w.now c.requires.0 c.args.p c.requires.1.0 (message_of c.message_at-m.result) held
+    (sym c.alive_at.ensures ∙ not-false _ c.if-not-alive_at.false-raw) in
     c.to_relay.ensures ∙ heard
 
 pub to_desk-requires : goal.to_desk-requires
 unfolding message_of
 to_desk-requires c =
     let held : place_at (world_at c.args.w.now) c.args.p ≡ waiting (message_of c.message_at-m.result) =
-        place-holds c.args.w.now c.requires.0 c.args.p c.requires.1.0 c.message_at-m.result c.requires.1.1 (message-read _ _ c.message_at-m.ensures) in
+    place-holds c.args.w.now c.requires.0 c.args.p c.requires.1.0 c.message_at-m.result c.requires.1.1 (message-read _ _ c.message_at-m.ensures) in
     let below : c.message_at-m.result.to < 12 =
-        to_below (message_of c.message_at-m.result) _ (held_good c.args.w.now c.requires.0 c.args.p c.requires.1.0 (message_of c.message_at-m.result) held) in
+    to_below (message_of c.message_at-m.result) _ (held_good c.args.w.now c.requires.0 c.args.p c.requires.1.0 (message_of c.message_at-m.result) held) in
     (c.requires.0, (c.requires.1.0, (held, (c.if-m-lt8.false, below))))
 
 pub returns : goal.returns
 unfolding message_of
 returns c =
     let held : place_at (world_at c.args.w.now) c.args.p ≡ waiting (message_of c.message_at-m.result) =
-        place-holds c.args.w.now c.requires.0 c.args.p c.requires.1.0 c.message_at-m.result c.requires.1.1 (message-read _ _ c.message_at-m.ensures) in
+    place-holds c.args.w.now c.requires.0 c.args.p c.requires.1.0 c.message_at-m.result c.requires.1.1 (message-read _ _ c.message_at-m.ensures) in
     let heard : left c.args.w.now (delivers (freed (world_at c.args.w.now) c.args.p) (message_of c.message_at-m.result))
-        ≡ left c.args.w.now (acts (world_at c.args.w.now) (steps.deliver c.args.p)) =
-        held-alive c.args.w.now c.requires.0 c.args.p c.requires.1.0 (message_of c.message_at-m.result) held
-        (sym c.alive_at.ensures ∙ not-false _ c.if-not-alive_at.false-raw) in
+    ≡ left c.args.w.now (acts (world_at c.args.w.now) (steps.deliver c.args.p)) =
+    held-alive c.args.w.now c.requires.0 c.args.p c.requires.1.0 (message_of c.message_at-m.result) held
+    (sym c.alive_at.ensures ∙ not-false _ c.if-not-alive_at.false-raw) in
     c.to_desk.ensures ∙ heard

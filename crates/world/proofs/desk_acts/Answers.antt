@@ -19,5 +19,5 @@ returns c =
     let ask = desk_asked c.args.kind c.args.x d in
     let is : c.desk_at-desk.result ≡ d = c.desk_at-desk.ensures ∙ sym (desk_at_lem c.args.w.now c.args.n c.requires.1) in
     c.desk_commits.ensures 0 ask (c.desk_asked-plan.ensures ∙ ap (λ (e : Desk). planned no_desk (desk_asked c.args.kind c.args.x e)) is)
-        (desk_asked_few c.args.kind c.args.x d) (none-delivered (world_at c.args.w.now))
+    (desk_asked_few c.args.kind c.args.x d) (none-delivered (world_at c.args.w.now))
     ∙ desk-step c.args.w.now c.args.n ask

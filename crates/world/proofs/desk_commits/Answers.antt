@@ -33,5 +33,5 @@ returns c k a e few d =
     ∙ desk-done c.args.w.now c.requires.0 c.args.p c.args.n k a (desk_plan_of c.args.plan) e few d c.if-answer-ne0.false
     (sym (c.has_room.ensures (8 + c.args.n)) ∙ not-false _ c.if-not-has_room.false-raw) _
     (freed-sent (with_desk (world_at c.args.w.now) c.args.n c.args.plan.desk) (shaped c.args.w.now c.requires.0).places c.args.p (8 + c.args.n)
-        (sendings_of c.args.plan.sends) _ _ _
+    (sendings_of c.args.plan.sends) _ _ _
     (c.put_desk.ensures ∙ desk-put c.args.w.now c.requires.0 c.args.n c.requires.1 c.args.plan.desk) c.free.ensures c.send_all.ensures)

@@ -29,4 +29,4 @@ returns c =
     c.tells.ensures _
     ∙ rw (ne_eqb c.args.kind 6 c.if-kind-eq-DELIVER.false)
     (drop-left c.args.w.now c.requires c.args.id small (sym c.is_free.ensures ∙ c.if-is_free.false) _
-        (c.free.ensures (world_at c.args.w.now) (shaped c.args.w.now c.requires).places (sym (good_image c.args.w.now c.requires))))
+    (c.free.ensures (world_at c.args.w.now) (shaped c.args.w.now c.requires).places (sym (good_image c.args.w.now c.requires))))

@@ -25,9 +25,9 @@ returns-then-kind c =
 pub returns-then-who-ge12 : goal.returns-then-who-ge12
 returns-then-who-ge12 c =
     let routes : left c.args.w.now (routed (world_at c.args.w.now) c.args.k.kind c.actor-who.result c.args.k.value)
-        ≡ lent_step c.args.w.now c.args.k = let small : c.args.k.value < 4294967296 = search rules in
+    ≡ lent_step c.args.w.now c.args.k = let small : c.args.k.value < 4294967296 = search rules in
     rw c.actor-who.ensures (ap (left c.args.w.now) (sym (acted c.args.k c.if-kind-k.false (world_at c.args.w.now) c.if-kind.false small))
-        ∙ step_left c.args.w.now c.requires c.args.k _ refl) in
+    ∙ step_left c.args.w.now c.requires c.args.k _ refl) in
     c.refuses-then-who-ge12.ensures bad_step c.args.w.now refl ∙ (rw (le-ltb c.actor-who.result 12 c.if-who-ge12.true) at (routes))
 
 pub alive_at-requires : goal.alive_at-requires
@@ -36,12 +36,12 @@ alive_at-requires c = c.if-who-ge12.false
 pub returns-then-not-alive_at : goal.returns-then-not-alive_at
 returns-then-not-alive_at c =
     let routes : left c.args.w.now (routed (world_at c.args.w.now) c.args.k.kind c.actor-who.result c.args.k.value)
-        ≡ lent_step c.args.w.now c.args.k = let small : c.args.k.value < 4294967296 = search rules in
+    ≡ lent_step c.args.w.now c.args.k = let small : c.args.k.value < 4294967296 = search rules in
     rw c.actor-who.ensures (ap (left c.args.w.now) (sym (acted c.args.k c.if-kind-k.false (world_at c.args.w.now) c.if-kind.false small))
-        ∙ step_left c.args.w.now c.requires c.args.k _ refl) in
+    ∙ step_left c.args.w.now c.requires c.args.k _ refl) in
     c.refuses-then-not-alive_at.ensures dead c.args.w.now refl
-        ∙ dead-left c.args.w.now c.actor-who.result _ (sym c.alive_at.ensures ∙ not-true _ c.if-not-alive_at.true-raw)
-        ∙ (rw (lt-ltb c.actor-who.result 12 c.if-who-ge12.false) at (routes))
+    ∙ dead-left c.args.w.now c.actor-who.result _ (sym c.alive_at.ensures ∙ not-true _ c.if-not-alive_at.true-raw)
+    ∙ (rw (lt-ltb c.actor-who.result 12 c.if-who-ge12.false) at (routes))
 
 pub crash-requires : goal.crash-requires
 crash-requires c =
@@ -51,12 +51,12 @@ crash-requires c =
 pub returns-then-kind-eq-CRASH : goal.returns-then-kind-eq-CRASH
 returns-then-kind-eq-CRASH c =
     let routes : left c.args.w.now (routed (world_at c.args.w.now) c.args.k.kind c.actor-who.result c.args.k.value)
-        ≡ lent_step c.args.w.now c.args.k = let small : c.args.k.value < 4294967296 = search rules in
+    ≡ lent_step c.args.w.now c.args.k = let small : c.args.k.value < 4294967296 = search rules in
     rw c.actor-who.ensures (ap (left c.args.w.now) (sym (acted c.args.k c.if-kind-k.false (world_at c.args.w.now) c.if-kind.false small))
-        ∙ step_left c.args.w.now c.requires c.args.k _ refl) in
+    ∙ step_left c.args.w.now c.requires c.args.k _ refl) in
     let does : left c.args.w.now (doing (world_at c.args.w.now) c.args.k.kind c.actor-who.result c.args.k.value) ≡ lent_step c.args.w.now c.args.k =
-        alive-left c.args.w.now c.actor-who.result _ (sym c.alive_at.ensures ∙ not-false _ c.if-not-alive_at.false-raw)
-        ∙ (rw (lt-ltb c.actor-who.result 12 c.if-who-ge12.false) at (routes)) in
+    alive-left c.args.w.now c.actor-who.result _ (sym c.alive_at.ensures ∙ not-false _ c.if-not-alive_at.false-raw)
+    ∙ (rw (lt-ltb c.actor-who.result 12 c.if-who-ge12.false) at (routes)) in
     c.crash.ensures ∙ (rw (eq-eqb _ 8 c.if-kind-eq-CRASH.true) at (does))
 
 pub relay_acts-requires : goal.relay_acts-requires
@@ -67,12 +67,12 @@ relay_acts-requires c =
 pub returns-then-who-lt8 : goal.returns-then-who-lt8
 returns-then-who-lt8 c =
     let routes : left c.args.w.now (routed (world_at c.args.w.now) c.args.k.kind c.actor-who.result c.args.k.value)
-        ≡ lent_step c.args.w.now c.args.k = let small : c.args.k.value < 4294967296 = search rules in
+    ≡ lent_step c.args.w.now c.args.k = let small : c.args.k.value < 4294967296 = search rules in
     rw c.actor-who.ensures (ap (left c.args.w.now) (sym (acted c.args.k c.if-kind-k.false (world_at c.args.w.now) c.if-kind.false small))
-        ∙ step_left c.args.w.now c.requires c.args.k _ refl) in
+    ∙ step_left c.args.w.now c.requires c.args.k _ refl) in
     let does : left c.args.w.now (doing (world_at c.args.w.now) c.args.k.kind c.actor-who.result c.args.k.value) ≡ lent_step c.args.w.now c.args.k =
-        alive-left c.args.w.now c.actor-who.result _ (sym c.alive_at.ensures ∙ not-false _ c.if-not-alive_at.false-raw)
-        ∙ (rw (lt-ltb c.actor-who.result 12 c.if-who-ge12.false) at (routes)) in
+    alive-left c.args.w.now c.actor-who.result _ (sym c.alive_at.ensures ∙ not-false _ c.if-not-alive_at.false-raw)
+    ∙ (rw (lt-ltb c.actor-who.result 12 c.if-who-ge12.false) at (routes)) in
     c.relay_acts.ensures ∙ (rw (ne_eqb _ 8 c.if-kind-eq-CRASH.false, lt-ltb _ 8 c.if-who-lt8.true) at (does))
 
 pub desk_acts-requires : goal.desk_acts-requires
@@ -83,10 +83,10 @@ desk_acts-requires c =
 pub returns : goal.returns
 returns c =
     let routes : left c.args.w.now (routed (world_at c.args.w.now) c.args.k.kind c.actor-who.result c.args.k.value)
-        ≡ lent_step c.args.w.now c.args.k = let small : c.args.k.value < 4294967296 = search rules in
+    ≡ lent_step c.args.w.now c.args.k = let small : c.args.k.value < 4294967296 = search rules in
     rw c.actor-who.ensures (ap (left c.args.w.now) (sym (acted c.args.k c.if-kind-k.false (world_at c.args.w.now) c.if-kind.false small))
-        ∙ step_left c.args.w.now c.requires c.args.k _ refl) in
+    ∙ step_left c.args.w.now c.requires c.args.k _ refl) in
     let does : left c.args.w.now (doing (world_at c.args.w.now) c.args.k.kind c.actor-who.result c.args.k.value) ≡ lent_step c.args.w.now c.args.k =
-        alive-left c.args.w.now c.actor-who.result _ (sym c.alive_at.ensures ∙ not-false _ c.if-not-alive_at.false-raw)
-        ∙ (rw (lt-ltb c.actor-who.result 12 c.if-who-ge12.false) at (routes)) in
+    alive-left c.args.w.now c.actor-who.result _ (sym c.alive_at.ensures ∙ not-false _ c.if-not-alive_at.false-raw)
+    ∙ (rw (lt-ltb c.actor-who.result 12 c.if-who-ge12.false) at (routes)) in
     c.desk_acts.ensures ∙ (rw (ne_eqb _ 8 c.if-kind-eq-CRASH.false, le-ltb _ 8 c.if-who-lt8.false) at (does))

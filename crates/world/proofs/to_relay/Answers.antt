@@ -29,9 +29,9 @@ returns c =
     let ask = relay_hears c.args.m.to shown c.args.m.from x in
     c.relay_commits.ensures 1 ask
     (c.hears-plan.ensures
-        ∙ ap (planned no_relay)
-        (rw (c.part_at-part.ensures, c.about_of-about.ensures.0, c.about_of-about.ensures.1)
-        (hears_fits c.args.m.to r m x (good_relay_lem c.args.w.now c.requires.0 c.args.m.to) refl
-        (held_good c.args.w.now c.requires.0 c.args.p c.requires.1.0 m c.requires.1.1.0))))
+    ∙ ap (planned no_relay)
+    (rw (c.part_at-part.ensures, c.about_of-about.ensures.0, c.about_of-about.ensures.1)
+    (hears_fits c.args.m.to r m x (good_relay_lem c.args.w.now c.requires.0 c.args.m.to) refl
+    (held_good c.args.w.now c.requires.0 c.args.p c.requires.1.0 m c.requires.1.1.0))))
     (hears_few c.args.m.to shown c.args.m.from x) (held-delivered c.args.w.now c.requires.0 c.args.p c.requires.1.0 m c.requires.1.1.0)
     ∙ to_relay_left c.args.w.now c.requires.0 c.args.p c.requires.1.0 m c.requires.1.1.1 ask (hears_wide c.args.m.to r c.args.m.from x)

@@ -23,4 +23,4 @@ returns c =
     let value : Fits w32 c.args.d.holds.value = search rules in
     let e = eq-eqb _ _ c.if-holds-ne0.false in
     pass _ _ (pair_in_range c.args.d.holds count.fits (omega arith) value.fits)
-        (pass _ _ (eq-eqb _ _ c.if-holds-ne0.false) (pass _ _ (eq-eqb _ _ c.if-holds-ne0-2.false) (last _ c.good_best.ensures)))
+    (pass _ _ (eq-eqb _ _ c.if-holds-ne0.false) (pass _ _ (eq-eqb _ _ c.if-holds-ne0-2.false) (last _ c.good_best.ensures)))

@@ -25,14 +25,14 @@ pub returns-then-not-good_note : goal.returns-then-not-good_note
 unfolding notes_of
 returns-then-not-good_note c =
     let tested : c.good_note.result ≡ good_note c.args.v c.loop-i.i (get_or (map views_of c.args.n.of) c.loop-i.i []) =
-        c.good_note.ensures ∙ rw (note_at c.args.n.of c.loop-i.i) in
+    c.good_note.ensures ∙ rw (note_at c.args.n.of c.loop-i.i) in
     let eight : length (map views_of c.args.n.of) ≡ 8 = length-map c.args.n.of views_of ∙ search rules in
     passed_fails c.loop-i.invariant c.loop-i-test.true (no (tested) c.if-not-good_note.true-raw) ∙ sym (whole c.args.v (map views_of c.args.n.of) (eight))
 
 pub loop-i-preserved : goal.loop-i-preserved
 loop-i-preserved c =
     let tested : c.good_note.result ≡ good_note c.args.v c.loop-i.i (get_or (map views_of c.args.n.of) c.loop-i.i []) =
-        c.good_note.ensures ∙ rw (note_at c.args.n.of c.loop-i.i) in
+    c.good_note.ensures ∙ rw (note_at c.args.n.of c.loop-i.i) in
     passed_more c.loop-i.invariant c.loop-i-test.true (yes (tested) c.if-not-good_note.false-raw)
 
 pub returns : goal.returns

@@ -47,12 +47,16 @@ returns-in-10 c = rw c.in-10.is c.good_pair_reply.ensures
 pub returns-in_default : goal.returns-in_default
 unfolding message_of body_of body_in
 returns-in_default c =
-    rw (ne_eqb c.args.m.body.kind 1 c.in_default.in_default-own.rest.0.0.0.0.0.0.0.0.0.1,
-        ne_eqb c.args.m.body.kind 2 c.in_default.in_default-own.rest.0.0.0.0.0.0.0.0.1,
-        ne_eqb c.args.m.body.kind 3 c.in_default.in_default-own.rest.0.0.0.0.0.0.0.1,
-        ne_eqb c.args.m.body.kind 4 c.in_default.in_default-own.rest.0.0.0.0.0.0.1,
-        ne_eqb c.args.m.body.kind 5 c.in_default.in_default-own.rest.0.0.0.0.0.1,
-        ne_eqb c.args.m.body.kind 6 c.in_default.in_default-own.rest.0.0.0.0.1, ne_eqb c.args.m.body.kind 7 c.in_default.in_default-own.rest.0.0.0.1,
-        ne_eqb c.args.m.body.kind 8 c.in_default.in_default-own.rest.0.0.1, ne_eqb c.args.m.body.kind 9 c.in_default.in_default-own.rest.0.1,
-        ne_eqb c.args.m.body.kind 10 c.in_default.in_default-own.rest.1)
+    rw (
+      ne_eqb c.args.m.body.kind 1 c.in_default.in_default-own.rest.0.0.0.0.0.0.0.0.0.1,
+      ne_eqb c.args.m.body.kind 2 c.in_default.in_default-own.rest.0.0.0.0.0.0.0.0.1,
+      ne_eqb c.args.m.body.kind 3 c.in_default.in_default-own.rest.0.0.0.0.0.0.0.1,
+      ne_eqb c.args.m.body.kind 4 c.in_default.in_default-own.rest.0.0.0.0.0.0.1,
+      ne_eqb c.args.m.body.kind 5 c.in_default.in_default-own.rest.0.0.0.0.0.1,
+      ne_eqb c.args.m.body.kind 6 c.in_default.in_default-own.rest.0.0.0.0.1,
+      ne_eqb c.args.m.body.kind 7 c.in_default.in_default-own.rest.0.0.0.1,
+      ne_eqb c.args.m.body.kind 8 c.in_default.in_default-own.rest.0.0.1,
+      ne_eqb c.args.m.body.kind 9 c.in_default.in_default-own.rest.0.1,
+      ne_eqb c.args.m.body.kind 10 c.in_default.in_default-own.rest.1,
+    )
     c.good_ack.ensures

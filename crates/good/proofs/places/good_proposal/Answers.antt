@@ -22,8 +22,8 @@ pub returns : goal.returns
 unfolding good_place good_body
 returns c =
     let whole : not (eqb c.count.result 0)
-        ≡ all_hold (ltb c.args.v 65536 ∷ (member c.args.v c.args.from && member c.args.v c.args.to) ∷ above c.args.v (views_of c.args.q) ∷ not
-        (none (views_of c.args.q)) ∷ []) =
-        pass _ _ (in_range c.ranges.v) (pass _ _ (yes c.between.ensures c.if-not-between.false-raw) (pass _ _ (yes c.above.ensures c.if-not-above.false-raw)
+    ≡ all_hold (ltb c.args.v 65536 ∷ (member c.args.v c.args.from && member c.args.v c.args.to) ∷ above c.args.v (views_of c.args.q) ∷ not
+    (none (views_of c.args.q)) ∷ []) =
+    pass _ _ (in_range c.ranges.v) (pass _ _ (yes c.between.ensures c.if-not-between.false-raw) (pass _ _ (yes c.above.ensures c.if-not-above.false-raw)
     (last _ (ap not (none_count (views_of c.args.q) c.count.ensures.0))))) in
     (whole, whole)

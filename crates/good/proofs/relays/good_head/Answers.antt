@@ -27,4 +27,4 @@ returns c =
     (pass _ _ (in_range pending)
     (pass _ _ (yes c.good_pair.ensures c.if-not-good_pair.false-raw)
     (pass _ _ (yes c.good_active.ensures c.if-not-good_active.false-raw)
-        (last_then _ _ c.good_entered.ensures (hold_tests _ (no_generators _, (no_transfers _, tt))))))))
+    (last_then _ _ c.good_entered.ensures (hold_tests _ (no_generators _, (no_transfers _, tt))))))))

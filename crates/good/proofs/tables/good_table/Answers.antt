@@ -24,19 +24,19 @@ loop-i-init c = passed_none
 pub overflow_mul-i : goal.overflow_mul-i
 overflow_mul-i c =
     let inside : (c.loop-i.i * c.args.width ≤ (seat_count - 1) * generator_width) × ((seat_count - c.loop-i.i) * c.args.width ≤ generators_width) =
-        (rows_inside _ (seat_count - 1) _ (omega arith) (omega arith), rows_inside _ seat_count _ (omega arith) (omega arith)) in
+    (rows_inside _ (seat_count - 1) _ (omega arith) (omega arith), rows_inside _ seat_count _ (omega arith) (omega arith)) in
     let h = inside in search rules
 
 pub overflow_add-at : goal.overflow_add-at
 overflow_add-at c =
     let inside : (c.loop-i.i * c.args.width ≤ (seat_count - 1) * generator_width) × ((seat_count - c.loop-i.i) * c.args.width ≤ generators_width) =
-        (rows_inside _ (seat_count - 1) _ (omega arith) (omega arith), rows_inside _ seat_count _ (omega arith) (omega arith)) in
+    (rows_inside _ (seat_count - 1) _ (omega arith) (omega arith), rows_inside _ seat_count _ (omega arith) (omega arith)) in
     let h = inside in search rules
 
 pub overflow_mul-i-in-loop-i : goal.overflow_mul-i-in-loop-i
 overflow_mul-i-in-loop-i c =
     let inside : (c.loop-i.i * c.args.width ≤ (seat_count - 1) * generator_width) × ((seat_count - c.loop-i.i) * c.args.width ≤ generators_width) =
-        (rows_inside _ (seat_count - 1) _ (omega arith) (omega arith), rows_inside _ seat_count _ (omega arith) (omega arith)) in
+    (rows_inside _ (seat_count - 1) _ (omega arith) (omega arith), rows_inside _ seat_count _ (omega arith) (omega arith)) in
     let h = inside in search rules
 
 pub returns-then-is_zero : goal.returns-then-is_zero

@@ -17,5 +17,8 @@ returns-then-p-o c = rw (not-false c.args.p.transfers c.if-not-p.false, ne_eqb c
 
 pub returns : goal.returns
 unfolding part_of relay_of transfer_of all
-returns c = rw (not-false c.args.p.transfers c.if-not-p.false, eq-eqb c.args.p.transfer.old c.args.o (omega (arith, c.if-p-o.false)),
-    and-true (eqb c.args.p.transfer.new c.args.w))
+returns c = rw (
+  not-false c.args.p.transfers c.if-not-p.false,
+  eq-eqb c.args.p.transfer.old c.args.o (omega (arith, c.if-p-o.false)),
+  and-true (eqb c.args.p.transfer.new c.args.w),
+)

@@ -12,8 +12,10 @@ pub overflow_add-n : goal.overflow_add-n
 overflow_add-n c = omega (arith, byte_le c.is_free.result)
 
 pub loop-p-preserved : goal.loop-p-preserved
-loop-p-preserved c = (rw (rows_more c.args.w.now c.loop-p.p, ← c.is_free.ensures, ← byte-is c.is_free.result, c.loop-p.invariant.0),
-    omega (arith, byte_le c.is_free.result))
+loop-p-preserved c = (
+  rw (rows_more c.args.w.now c.loop-p.p, ← c.is_free.ensures, ← byte-is c.is_free.result, c.loop-p.invariant.0),
+  omega (arith, byte_le c.is_free.result),
+)
 
 pub returns : goal.returns
 returns c =

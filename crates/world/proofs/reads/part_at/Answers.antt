@@ -11,6 +11,6 @@ returns c =
     let m = move c.args.o c.args.n in
     part_is c.args.w.now c.requires.0 c.args.s c.requires.1 c.args.v m _ _ _ c.head_at-head.ensures
     (generators_shown c.args.w.now c.requires.0 c.args.s c.requires.1 c.args.v m _ _ _ c.generator_seat-i.ensures c.is_filled-generates.ensures
-        c.generator_in-generator.ensures)
+    c.generator_in-generator.ensures)
     (transfers_shown c.args.w.now c.requires.0 c.args.s c.requires.1 c.args.v c.args.o c.args.n _ _ _
     c.transfer_seat-j.ensures c.is_filled-transfers.ensures (transfer_read _ _ c.transfer_at-transfer.ensures))

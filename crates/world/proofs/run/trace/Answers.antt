@@ -40,6 +40,6 @@ returns c =
     let f = found_facts c.args.sheet.now c.check-s.result c.check-s.ensures c.if-s.false in
     let is = (started c.args.sheet.now c.check-s.result.mask f.0 f.1 small c.args.world.now c.start.new.w c.start.result c.if-world-ne-WORLD_WIDTH.false
     c.start.ensures).1.0 in let both =
-        left_good c.args.sheet.now c.args.world.now c.args.rows.now c.if-world-ne-WORLD_WIDTH.false c.check-s.result c.check-s.ensures c.if-s.false
-        c.if-rows-s.false c.start.new.w _ _ is
+    left_good c.args.sheet.now c.args.world.now c.args.rows.now c.if-world-ne-WORLD_WIDTH.false c.check-s.result c.check-s.ensures c.if-s.false
+    c.if-rows-s.false c.start.new.w _ _ is
     (c.turns.ensures.world, c.turns.ensures.rows) in record { answer = both.0; last = both.1.0; rows = both.1.1 }

@@ -32,7 +32,7 @@ pub loop-i-preserved : goal.loop-i-preserved
 unfolding transfer_of
 loop-i-preserved c =
     let is_inside : c.inside.result ≡ inside c.args.v (transfer_at c.args.w.now (c.args.at + c.loop-i.i * transfer_width)).new =
-        c.inside.ensures ∙ ap (λ (t : Transfer). inside c.args.v t.new) (transfer_read _ _ c.transfer_at-t.ensures) in
+    c.inside.ensures ∙ ap (λ (t : Transfer). inside c.args.v t.new) (transfer_read _ _ c.transfer_at-t.ensures) in
     elim c.if-inside.branch [
       | then-inside w ↦ rw (w.of-is, w.n-is, map-set)
           (kept_yes c.loop-i.invariant c.loop-i-test.true _ (transfer_read _ _ c.transfer_at-t.ensures) (sym is_inside ∙ w.if-inside.true))

@@ -10,8 +10,11 @@ use Rattle.world.proofs.writes.place.Goals as goal
 
 pub returns-then-p-ge256 : goal.returns-then-p-ge256
 returns-then-p-ge256 c =
-    record { next = c.requires; bytes =
-    λ W long e. e ∙ rw (put_nowhere W long (message c.args.from (body_of c.args.body) c.args.to) _ (rw e at c.first_free-p.ensures) c.if-p-ge256.true) }
+    record {
+      next = c.requires;
+      bytes =
+          λ W long e. e ∙ rw (put_nowhere W long (message c.args.from (body_of c.args.body) c.args.to) _ (rw e at c.first_free-p.ensures) c.if-p-ge256.true);
+    }
 
 pub shape_of-w : goal.shape_of-w
 shape_of-w c = ap length c.put_message.ensures ∙ placed-length _ _ _

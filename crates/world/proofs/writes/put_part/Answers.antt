@@ -14,7 +14,7 @@ returns-then-not-part c g h =
     c.put_head.ensures
     ∙ rw (c.put_transfers.ensures h) (head_written c.args.w.now c.requires.0 c.args.s c.requires.1 c.args.part)
     ∙ ap (λ (r : Relay). image (with_relay (world_at c.args.w.now) c.args.s r))
-        (none_written c.args.w.now c.requires.0 c.args.s c.requires.1 c.args.part (not-true _ c.if-not-part.true))
+    (none_written c.args.w.now c.requires.0 c.args.s c.requires.1 c.args.part (not-true _ c.if-not-part.true))
 
 pub returns : goal.returns
 returns c g h =

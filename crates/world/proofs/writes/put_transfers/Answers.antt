@@ -20,7 +20,7 @@ pub returns-then-view-read_u16 : goal.returns-then-view-read_u16
 returns-then-view-read_u16 c h =
     c.put_kept.ensures
     ∙ moved-written c.args.w.now c.requires.0 c.args.s c.requires.1 c.args.part (λ e. c.if-view-read_u16.true (e ∙ sym c.read_u16.ensures))
-        (map transfer_of c.kept_transfers-kept.result.of) c.kept_transfers-kept.ensures
+    (map transfer_of c.kept_transfers-kept.result.of) c.kept_transfers-kept.ensures
 
 pub returns-then-not-part : goal.returns-then-not-part
 returns-then-not-part c h =

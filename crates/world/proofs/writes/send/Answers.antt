@@ -24,9 +24,10 @@ place-low-requires c = c.loop-n.invariant.1
 pub loop-n-preserved : goal.loop-n-preserved
 loop-n-preserved c =
     elim c.if-m-n-eq1.branch [
-      | then-m-n-eq1 w ↦ rw (w.w-is, w.low-is)
-          (sent_more _ c.loop-n.invariant.0 c.loop-n-test.true (eq-eqb _ _ w.if-m-n-eq1.true) w.place-low.auto.w w.place-low.ensures.bytes,
-              w.place-low.ensures.next)
+      | then-m-n-eq1 w ↦ rw (w.w-is, w.low-is) (
+        sent_more _ c.loop-n.invariant.0 c.loop-n-test.true (eq-eqb _ _ w.if-m-n-eq1.true) w.place-low.auto.w w.place-low.ensures.bytes,
+        w.place-low.ensures.next,
+      )
       | else-m-n-eq1 w ↦ rw (w.w-is, w.low-is) (sent_same c.loop-n.invariant.0 c.loop-n-test.true (ne_eqb _ _ w.if-m-n-eq1.false), c.loop-n.invariant.1)
     ]
 
