@@ -78,7 +78,8 @@ def brought(path, full, bound):
     if group and spelt == name:
         put(path, text.replace(group, f'{group[:-1]}, {name}}}'))
     else:
-        near = [found for found in re.findall(r'^use .*\n', text, re.M) if found.split('.')[0] == line.split('.')[0]] or re.findall(r'^use .*\n', text, re.M)
+        every = re.findall(r'^use .*\n', text, re.M)
+        near = [found for found in every if found.split('.')[:2] == line.split('.')[:2]] or every
         put(path, text.replace(near[-1], f'{near[-1]}{line}\n'))
     return spelt
 
