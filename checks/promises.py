@@ -436,6 +436,8 @@ def clauses(path, name, text, at):
     while True:
         clause = re.match(r'\s*(\w+)\s*(\w*)\s*(?=\{)', text[at:])
         if not clause:
+            if not re.match(r'\s*[{;]', text[at:]):
+                raise Unread(f'{path}: {name}: what follows its clauses is not understood: {" ".join(text[at:at + 40].split())}')
             return result[1], found
         body, at = inside(text, at + clause.end(), '}')
         found.append((clause[1], clause[2], ' '.join(body.split())))

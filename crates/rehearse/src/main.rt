@@ -1,7 +1,7 @@
 // Reads a sheet from standard input, and writes the record of its run to standard output. Document 01, "Sheets and the printed record".
 //
 // No promise covers what is read and written: that the sheet is what stood at standard input, and that what is handed to the library reaches standard output,
-// is the word of the library and of the system. A call that a signal interrupts before it moves a byte counts as one that failed.
+// is the word of the library and of the system. A read that a signal interrupts before it moves a byte counts as one that failed; a write is tried again.
 // What failed is told on standard error; a sheet that could not be read has no record, not even `bad 9`.
 #![tactic(auto)]
 
