@@ -29,7 +29,7 @@ unfolding rows_good
 returns-then-not-good_desks c =
     let relays : all 8 (relay_good c.args.w.now) ≡ true = yes c.good_relays.ensures c.if-not-good_relays.false-raw in
     let rows : rows_good c.args.w.now ≡ good_bytes c.args.w.now = sym (bytes_good c.args.w.now c.if-w-ne-WORLD_WIDTH.false) in
-    both_pass (relays) (both_fail _ (no c.good_desks.ensures c.if-not-good_desks.true-raw)) ∙ rows
+    both_pass relays (both_fail _ (no c.good_desks.ensures c.if-not-good_desks.true-raw)) ∙ rows
 
 pub good_places-requires : goal.good_places-requires
 good_places-requires c = c.if-w-ne-WORLD_WIDTH.false
@@ -40,7 +40,7 @@ returns-then-not-good_places c =
     let relays : all 8 (relay_good c.args.w.now) ≡ true = yes c.good_relays.ensures c.if-not-good_relays.false-raw in
     let desks : all 4 (λ n. desk_good c.args.w.now (desk_begin n)) ≡ true = yes c.good_desks.ensures c.if-not-good_desks.false-raw in
     let rows : rows_good c.args.w.now ≡ good_bytes c.args.w.now = sym (bytes_good c.args.w.now c.if-w-ne-WORLD_WIDTH.false) in
-    both_pass (relays) (both_pass (desks) (both_fail _ (no c.good_places.ensures c.if-not-good_places.true-raw))) ∙ rows
+    both_pass relays (both_pass desks (both_fail _ (no c.good_places.ensures c.if-not-good_places.true-raw))) ∙ rows
 
 pub returns : goal.returns
 unfolding rows_good
@@ -48,4 +48,4 @@ returns c =
     let relays : all 8 (relay_good c.args.w.now) ≡ true = yes c.good_relays.ensures c.if-not-good_relays.false-raw in
     let desks : all 4 (λ n. desk_good c.args.w.now (desk_begin n)) ≡ true = yes c.good_desks.ensures c.if-not-good_desks.false-raw in
     let rows : rows_good c.args.w.now ≡ good_bytes c.args.w.now = sym (bytes_good c.args.w.now c.if-w-ne-WORLD_WIDTH.false) in
-    both_pass (relays) (both_pass (desks) (both_pass (yes c.good_places.ensures c.if-not-good_places.false-raw) c.is_zero.ensures)) ∙ rows
+    both_pass relays (both_pass desks (both_pass (yes c.good_places.ensures c.if-not-good_places.false-raw) c.is_zero.ensures)) ∙ rows

@@ -19,7 +19,7 @@ loop-i-init c = wrote_none
 pub overflow_add-at : goal.overflow_add-at
 overflow_add-at c =
     let space : c.args.at + notes_width ≤ length c.args.s.now = room c.has_room.ensures c.if-not-has_room.false-raw in
-    let fit = space in omega arith
+    omega arith
 
 pub loop-i-preserved : goal.loop-i-preserved
 loop-i-preserved c =

@@ -31,12 +31,11 @@ loop-i-init c = wrote_none
 pub overflow_add-at : goal.overflow_add-at
 overflow_add-at c =
     let space : c.args.at + sequence_width ≤ length c.args.s.now = room c.has_room.ensures c.if-not-has_room.false-raw in
-    let fit = space in omega arith
+    omega arith
 
 pub loop-i-preserved : goal.loop-i-preserved
 loop-i-preserved c =
     let space : c.args.at + sequence_width ≤ length c.args.s.now = room c.has_room.ensures c.if-not-has_room.false-raw in
-    let fit = space in
     wrote_more (λ k. length-be16 _) (omega arith) _ (c.args.at + 2 * c.loop-i.i)
     c.loop-i.invariant c.loop-i-test.true (omega arith)
     (rw c.view_at-v.ensures at c.put_u16.ensures)
@@ -44,13 +43,12 @@ loop-i-preserved c =
 pub overflow_add-at-2 : goal.overflow_add-at-2
 overflow_add-at-2 c =
     let space : c.args.at + sequence_width ≤ length c.args.s.now = room c.has_room.ensures c.if-not-has_room.false-raw in
-    let fit = space in omega arith
+    omega arith
 
 pub returns : goal.returns
 unfolding sequence_bytes
 returns c =
     let space : c.args.at + sequence_width ≤ length c.args.s.now = room c.has_room.ensures c.if-not-has_room.false-raw in
-    let fit = space in
     let views = wrote-all (λ k. length-be16 _) (omega arith) c.loop-i.invariant c.loop-i-test.false in
     let p1 = put_first _ _ (length_views (views_of c.args.q)) views in
     let p2 = put_then _ _ p1 refl (omega arith) (rw c.count-n.ensures.0 at c.put_byte.ensures) in

@@ -25,9 +25,8 @@ returns-in_default c =
 
 pub put_row-t-requires : goal.put_row-t-requires
 put_row-t-requires c =
-    let step-read : steps_from c.args.sheet.now c.loop-k.from ≡ c.in-At.k ∷ steps_from c.args.sheet.now c.read_at-taken.result.at =
-    taken_step c.args.sheet.now c.loop-k.from c.read_at-taken.result c.read_at-taken.ensures c.in-At.k c.in-At.is in
-    let row_there : c.loop-k.row + trace_row_width ≤ length c.args.rows.now = lining_room c.loop-k.invariant _ _ step-read in
+    let read = taken_step c.args.sheet.now c.loop-k.from c.read_at-taken.result c.read_at-taken.ensures c.in-At.k c.in-At.is in
+    let row_there = lining_room c.loop-k.invariant _ _ read in
     row_there
 
 pub overflow_add-delivered : goal.overflow_add-delivered
@@ -47,19 +46,16 @@ overflow_add-number c =
 
 pub overflow_add-row : goal.overflow_add-row
 overflow_add-row c =
-    let step-read : steps_from c.args.sheet.now c.loop-k.from ≡ c.in-At.k ∷ steps_from c.args.sheet.now c.read_at-taken.result.at =
-    taken_step c.args.sheet.now c.loop-k.from c.read_at-taken.result c.read_at-taken.ensures c.in-At.k c.in-At.is in
-    let row_there : c.loop-k.row + trace_row_width ≤ length c.args.rows.now = lining_room c.loop-k.invariant _ _ step-read in
+    let read = taken_step c.args.sheet.now c.loop-k.from c.read_at-taken.result c.read_at-taken.ensures c.in-At.k c.in-At.is in
+    let row_there = lining_room c.loop-k.invariant _ _ read in
     omega (arith, row_there)
 
 pub loop-k-smaller : goal.loop-k-smaller
 loop-k-smaller c =
-    let step-read : steps_from c.args.sheet.now c.loop-k.from ≡ c.in-At.k ∷ steps_from c.args.sheet.now c.read_at-taken.result.at =
-    taken_step c.args.sheet.now c.loop-k.from c.read_at-taken.result c.read_at-taken.ensures c.in-At.k c.in-At.is in
-    omega (arith, ap length step-read)
+    let read = taken_step c.args.sheet.now c.loop-k.from c.read_at-taken.result c.read_at-taken.ensures c.in-At.k c.in-At.is in
+    omega (arith, ap length read)
 
 pub loop-k-preserved : goal.loop-k-preserved
 loop-k-preserved c =
-    let step-read : steps_from c.args.sheet.now c.loop-k.from ≡ c.in-At.k ∷ steps_from c.args.sheet.now c.read_at-taken.result.at =
-    taken_step c.args.sheet.now c.loop-k.from c.read_at-taken.result c.read_at-taken.ensures c.in-At.k c.in-At.is in
-    lining_more c.loop-k.invariant _ _ step-read _ c.put_row-t.result c.put_row-t.ensures
+    let read = taken_step c.args.sheet.now c.loop-k.from c.read_at-taken.result c.read_at-taken.ensures c.in-At.k c.in-At.is in
+    lining_more c.loop-k.invariant _ _ read _ c.put_row-t.result c.put_row-t.ensures

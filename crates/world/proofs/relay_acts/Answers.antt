@@ -20,7 +20,7 @@ pub relay_asked-plan-requires : goal.relay_asked-plan-requires
 relay_asked-plan-requires c =
     let shown : let r = relay_at (world_at c.args.w.now) c.args.s in part_of c.part_at-part.result ≡ narrow r r.view (move 0 0) =
     rw (c.read_u16-view.ensures ∙ view_at c.args.w.now c.args.s c.requires.1) at c.part_at-part.ensures in
-    (c.requires.1, rw (shown) (shows_own (relay_at (world_at c.args.w.now) c.args.s)))
+    (c.requires.1, rw shown (shows_own (relay_at (world_at c.args.w.now) c.args.s)))
 
 pub relay_commits-requires : goal.relay_commits-requires
 relay_commits-requires c = c.requires
@@ -31,6 +31,6 @@ returns c =
     rw (c.read_u16-view.ensures ∙ view_at c.args.w.now c.args.s c.requires.1) at c.part_at-part.ensures in
     let r = relay_at (world_at c.args.w.now) c.args.s in
     let ask = relay_asked c.args.kind c.args.s (narrow r r.view (move 0 0)) in
-    c.relay_commits.ensures 0 ask (c.relay_asked-plan.ensures ∙ ap (λ (p : Relay). planned no_relay (relay_asked c.args.kind c.args.s p)) (shown))
+    c.relay_commits.ensures 0 ask (c.relay_asked-plan.ensures ∙ ap (λ (p : Relay). planned no_relay (relay_asked c.args.kind c.args.s p)) shown)
     (asked_few c.args.s _ c.args.kind) (none-delivered (world_at c.args.w.now))
     ∙ relay_step c.args.w.now c.args.s (relay_asked c.args.kind c.args.s r) ask (asked_wide c.args.kind c.args.s r)

@@ -16,17 +16,17 @@ returns-then-not-other_names c = both_fail _ (no c.other_names.ensures c.if-not-
 pub overflow_mul-o : goal.overflow_mul-o
 overflow_mul-o c =
     let inside : c.args.i * c.args.width ≤ (seat_count - 1) * generator_width = rows_inside _ (seat_count - 1) _ (omega arith) (search rules) in
-    let h = inside in search rules
+    search rules
 
 pub overflow_add-o : goal.overflow_add-o
 overflow_add-o c =
     let inside : c.args.i * c.args.width ≤ (seat_count - 1) * generator_width = rows_inside _ (seat_count - 1) _ (omega arith) (search rules) in
-    let h = inside in search rules
+    search rules
 
 pub good_generator_row-requires : goal.good_generator_row-requires
 good_generator_row-requires c =
     let inside : c.args.i * c.args.width ≤ (seat_count - 1) * generator_width = rows_inside _ (seat_count - 1) _ (omega arith) (search rules) in
-    let h = inside in search rules
+    search rules
 
 pub returns-then-generators : goal.returns-then-generators
 unfolding place_filled row_good
@@ -35,7 +35,7 @@ returns-then-generators c = both_pass (yes c.other_names.ensures c.if-not-other_
 pub good_transfer_row-requires : goal.good_transfer_row-requires
 good_transfer_row-requires c =
     let inside : c.args.i * c.args.width ≤ (seat_count - 1) * generator_width = rows_inside _ (seat_count - 1) _ (omega arith) (search rules) in
-    let h = inside in search rules
+    search rules
 
 pub returns : goal.returns
 unfolding place_filled row_good

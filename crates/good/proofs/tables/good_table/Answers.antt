@@ -25,19 +25,19 @@ pub overflow_mul-i : goal.overflow_mul-i
 overflow_mul-i c =
     let inside : (c.loop-i.i * c.args.width ≤ (seat_count - 1) * generator_width) × ((seat_count - c.loop-i.i) * c.args.width ≤ generators_width) =
     (rows_inside _ (seat_count - 1) _ (omega arith) (omega arith), rows_inside _ seat_count _ (omega arith) (omega arith)) in
-    let h = inside in search rules
+    search rules
 
 pub overflow_add-at : goal.overflow_add-at
 overflow_add-at c =
     let inside : (c.loop-i.i * c.args.width ≤ (seat_count - 1) * generator_width) × ((seat_count - c.loop-i.i) * c.args.width ≤ generators_width) =
     (rows_inside _ (seat_count - 1) _ (omega arith) (omega arith), rows_inside _ seat_count _ (omega arith) (omega arith)) in
-    let h = inside in search rules
+    search rules
 
 pub overflow_mul-i-in-loop-i : goal.overflow_mul-i-in-loop-i
 overflow_mul-i-in-loop-i c =
     let inside : (c.loop-i.i * c.args.width ≤ (seat_count - 1) * generator_width) × ((seat_count - c.loop-i.i) * c.args.width ≤ generators_width) =
     (rows_inside _ (seat_count - 1) _ (omega arith) (omega arith), rows_inside _ seat_count _ (omega arith) (omega arith)) in
-    let h = inside in search rules
+    search rules
 
 pub returns-then-is_zero : goal.returns-then-is_zero
 unfolding filled_good

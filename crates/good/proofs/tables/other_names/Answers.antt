@@ -18,31 +18,31 @@ pub overflow_mul-j : goal.overflow_mul-j
 overflow_mul-j c =
     let inside : (c.loop-j.j * c.args.width ≤ (seat_count - 1) * generator_width) × (c.args.i * c.args.width ≤ (seat_count - 1) * generator_width) =
     (rows_inside _ (seat_count - 1) _ (omega arith) (search rules), rows_inside _ (seat_count - 1) _ (omega arith) (search rules)) in
-    let h = inside in search rules
+    search rules
 
 pub overflow_add-at : goal.overflow_add-at
 overflow_add-at c =
     let inside : (c.loop-j.j * c.args.width ≤ (seat_count - 1) * generator_width) × (c.args.i * c.args.width ≤ (seat_count - 1) * generator_width) =
     (rows_inside _ (seat_count - 1) _ (omega arith) (search rules), rows_inside _ (seat_count - 1) _ (omega arith) (search rules)) in
-    let h = inside in search rules
+    search rules
 
 pub overflow_mul-i : goal.overflow_mul-i
 overflow_mul-i c =
     let inside : (c.loop-j.j * c.args.width ≤ (seat_count - 1) * generator_width) × (c.args.i * c.args.width ≤ (seat_count - 1) * generator_width) =
     (rows_inside _ (seat_count - 1) _ (omega arith) (search rules), rows_inside _ (seat_count - 1) _ (omega arith) (search rules)) in
-    let h = inside in search rules
+    search rules
 
 pub overflow_add-at-in-loop-j : goal.overflow_add-at-in-loop-j
 overflow_add-at-in-loop-j c =
     let inside : (c.loop-j.j * c.args.width ≤ (seat_count - 1) * generator_width) × (c.args.i * c.args.width ≤ (seat_count - 1) * generator_width) =
     (rows_inside _ (seat_count - 1) _ (omega arith) (search rules), rows_inside _ (seat_count - 1) _ (omega arith) (search rules)) in
-    let h = inside in search rules
+    search rules
 
 pub same_name-requires : goal.same_name-requires
 same_name-requires c =
     let inside : (c.loop-j.j * c.args.width ≤ (seat_count - 1) * generator_width) × (c.args.i * c.args.width ≤ (seat_count - 1) * generator_width) =
     (rows_inside _ (seat_count - 1) _ (omega arith) (search rules), rows_inside _ (seat_count - 1) _ (omega arith) (search rules)) in
-    let h = inside in search rules
+    search rules
 
 pub returns-then-same_name : goal.returns-then-same_name
 unfolding differs

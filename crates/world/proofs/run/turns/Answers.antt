@@ -28,18 +28,15 @@ turn-requires c = c.loop-k.invariant.good
 
 pub overflow_add-at : goal.overflow_add-at
 overflow_add-at c =
-    let step-read : steps_from c.args.sheet.now c.loop-k.from ≡ c.in-At.k ∷ steps_from c.args.sheet.now c.read_at-taken.result.at =
-    taken_step c.args.sheet.now c.loop-k.from c.read_at-taken.result c.read_at-taken.ensures c.in-At.k c.in-At.is in
-    omega (arith, c.loop-k.invariant.room, ap length step-read)
+    let read = taken_step c.args.sheet.now c.loop-k.from c.read_at-taken.result c.read_at-taken.ensures c.in-At.k c.in-At.is in
+    omega (arith, c.loop-k.invariant.room, ap length read)
 
 pub loop-k-smaller : goal.loop-k-smaller
 loop-k-smaller c =
-    let step-read : steps_from c.args.sheet.now c.loop-k.from ≡ c.in-At.k ∷ steps_from c.args.sheet.now c.read_at-taken.result.at =
-    taken_step c.args.sheet.now c.loop-k.from c.read_at-taken.result c.read_at-taken.ensures c.in-At.k c.in-At.is in
-    omega (arith, ap length step-read)
+    let read = taken_step c.args.sheet.now c.loop-k.from c.read_at-taken.result c.read_at-taken.ensures c.in-At.k c.in-At.is in
+    omega (arith, ap length read)
 
 pub loop-k-preserved : goal.loop-k-preserved
 loop-k-preserved c =
-    let step-read : steps_from c.args.sheet.now c.loop-k.from ≡ c.in-At.k ∷ steps_from c.args.sheet.now c.read_at-taken.result.at =
-    taken_step c.args.sheet.now c.loop-k.from c.read_at-taken.result c.read_at-taken.ensures c.in-At.k c.in-At.is in
-    tracing_more c.loop-k.invariant _ _ _ _ step-read c.turn.ensures
+    let read = taken_step c.args.sheet.now c.loop-k.from c.read_at-taken.result c.read_at-taken.ensures c.in-At.k c.in-At.is in
+    tracing_more c.loop-k.invariant _ _ _ _ read c.turn.ensures
