@@ -30,6 +30,7 @@ use Rattle.layout.specs.Layout.{transfer_new, transfer_sequence, transfer_sender
 use Rattle.layout.specs.Layout.{relay_transfers, desk_phase, desk_view, desk_tries, desk_holds, desk_replied, desk_best, desk_agreed, message_from, message_to}
 use Rattle.layout.specs.Layout.{message_first, message_second, message_tries, message_sequence, message_pair, message_updates}
 use Rattle.layout.specs.Image.{flag, byte, sequence_bytes, pair_bytes, head_bytes, generator_bytes, transfer_bytes, relay_bytes, phase_number, desk_bytes, Row, row, body_row, place_row, row_bytes, place_bytes, flag_at, sequence_at, pair_at, generator_at, transfer_at, filled_generator, filled_transfer, relay_at, phase_of, desk_at, row_at, body_in, place_in, pair_fields, head_fields, generator_fields, transfer_fields, relay_fields, desk_fields, row_fields}
+use Rattle.layout.specs.Kinds.{kind_of}
 use Rattle.rules.proofs.Lists.{those-append}
 use Rattle.layout.proofs.Widths.{length-sequence, pair_widths, pair_widths_lem, head_widths, head_widths_lem, generator_widths, generator_widths_lem, length_generator, transfer_widths, transfer_widths_lem, length_transfer, relay_widths, relay_widths_lem, desk_widths, desk_widths_lem, row_widths, row_widths_lem}
 use Rattle.layout.proofs.Fits.{SequenceFits, PairFits, NotesFit, GeneratorFits, TransferFits, RowsFit, RelayFits, DeskFits, RowFits}
@@ -243,7 +244,7 @@ pub record RowOf (s r : ℕ) (b : Body) : Type 0 where
   pub waits : place_in (body_row s r b) ≡ waiting (record { from = s; to = r; body = b })
 
 pub row_of_lem : (s r : ℕ) (b : Body) → RowOf s r b
-unfolding addressed body_in place_in
+unfolding addressed kind_of body_in place_in
 row_of_lem s r (request u c) = record { kind = refl; ends = refl; says = refl; waits = refl }
 row_of_lem s r (view v) = record { kind = refl; ends = refl; says = refl; waits = refl }
 row_of_lem s r (proposal v q) = record { kind = refl; ends = refl; says = refl; waits = refl }

@@ -19,6 +19,9 @@ use Rattle.layout.specs.Layout.{desk_best, desk_agreed, desk_rest, message_from,
 use Rattle.layout.specs.Layout.{message_pair, message_updates, message_rest, no_kind, request_kind, view_kind, proposal_kind, converged_kind, install_kind}
 use Rattle.layout.specs.Layout.{state_kind, get_kind, put_kind, view_reply_kind, pair_reply_kind, ack_kind, world_width, world_rest, relay_begin, desk_begin}
 use Rattle.layout.specs.Layout.{place_begin}
+use Rattle.layout.specs.Kinds.{kind_of}
+use Rattle.layout.specs.declared.MessageKind.{MessageKind}
+use Rattle.layout.specs.declared.MessageKind.TheVariants.{Request, View, Proposal, Converged, Install, State, Get, Put, ViewReply, PairReply, Ack}
 
 -- ---- a state in bytes
 
@@ -240,25 +243,23 @@ row_at b i =
     (u16_at b (i + message_first)) (u16_at b (i + message_second)) (u16_at b (i + message_tries))
     (sequence_at b (i + message_sequence)) (pair_at b (i + message_pair)) (u16_at b (i + message_updates))
 
--- what a row of a kind from get to ack says: those have a try
-abbrev pub try_in : Row → Body
-try_in m =
-    if eqb m.kind get_kind then get m.tries m.first
-    else if eqb m.kind put_kind then put m.tries m.first m.pair
-    else if eqb m.kind view_reply_kind then view_reply m.tries m.first
-    else if eqb m.kind pair_reply_kind then pair_reply m.tries m.pair
-    else ack m.tries
+-- what a row says that is of this kind
+abbrev pub body_by : MessageKind → Row → Body
+body_by Request m = request m.updates m.first
+body_by View m = view m.first
+body_by Proposal m = proposal m.first m.sequence
+body_by Converged m = converged m.first m.sequence
+body_by Install m = install m.first m.second m.sequence
+body_by State m = state m.first m.second m.pair m.updates
+body_by Get m = get m.tries m.first
+body_by Put m = put m.tries m.first m.pair
+body_by ViewReply m = view_reply m.tries m.first
+body_by PairReply m = pair_reply m.tries m.pair
+body_by Ack m = ack m.tries
 
 -- what a row of any kind says
 unfoldable pub body_in : Row → Body
-body_in m =
-    if eqb m.kind request_kind then request m.updates m.first
-    else if eqb m.kind view_kind then view m.first
-    else if eqb m.kind proposal_kind then proposal m.first m.sequence
-    else if eqb m.kind converged_kind then converged m.first m.sequence
-    else if eqb m.kind install_kind then install m.first m.second m.sequence
-    else if eqb m.kind state_kind then state m.first m.second m.pair m.updates
-    else try_in m
+body_in m = body_by (kind_of m.kind) m
 
 unfoldable pub place_in : Row → Place
 place_in m =

@@ -2,6 +2,9 @@
 // before it ends.
 #![tactic(auto)]
 
+ghost use Rattle.std.specs.Prelude.{◌≡◌};
+ghost use Rattle.layout.specs.Kinds.{number_of_kind, kind_of};
+
 // ---- How wide one field is: a flag, a small number or a set of relays; a view, a try or a count; a value
 
 pub const BYTE: u8 = 1;
@@ -164,29 +167,56 @@ pub const MESSAGE_REST: u8 = (MESSAGE_WIDTH - MESSAGE_ZEROS) as u8;
 
 // ---- The kinds of messages, as a row numbers them
 
+// The place is free.
 pub const NO_KIND: u8 = 0;
 
-pub const REQUEST: u8 = 1;
+#[derive(Clone, Copy, PartialEq, Eq, Debug)]
+pub enum MessageKind {
+    Request = 1,
+    View,
+    Proposal,
+    Converged,
+    Install,
+    State,
+    Get,
+    Put,
+    ViewReply,
+    PairReply,
+    Ack,
+}
 
-pub const VIEW: u8 = 2;
+// The greatest that a row's kind can be.
+pub const LAST_KIND: u8 = MessageKind::Ack as u8;
 
-pub const PROPOSAL: u8 = 3;
+impl MessageKind {
+    pub fn number(self) -> u8
+        ensures { result ≡ number_of_kind self }
+    {
+        self as u8
+    }
+}
 
-pub const CONVERGED: u8 = 4;
+// A number that is no kind is an acknowledgement's.
+impl From<u8> for MessageKind {
+    ghost from_gives = { λ number result. result ≡ kind_of number };
 
-pub const INSTALL: u8 = 5;
-
-pub const STATE: u8 = 6;
-
-pub const GET: u8 = 7;
-
-pub const PUT: u8 = 8;
-
-pub const VIEW_REPLY: u8 = 9;
-
-pub const PAIR_REPLY: u8 = 10;
-
-pub const ACK: u8 = 11;
+    #[tactic(auto, unfolding(crate::specs::Kinds::kind_of))]
+    fn from(number: u8) -> Self {
+        match number {
+            1 => MessageKind::Request,
+            2 => MessageKind::View,
+            3 => MessageKind::Proposal,
+            4 => MessageKind::Converged,
+            5 => MessageKind::Install,
+            6 => MessageKind::State,
+            7 => MessageKind::Get,
+            8 => MessageKind::Put,
+            9 => MessageKind::ViewReply,
+            10 => MessageKind::PairReply,
+            _ => MessageKind::Ack,
+        }
+    }
+}
 
 // ---- "One lent buffer of exactly 65,536 bytes": 8 relays, 4 desks, 256 messages, zeros
 

@@ -8,6 +8,7 @@ pub mod Relays
 pub mod Desks
 pub mod Sending
 pub mod Steps
+pub mod Coded
 pub mod Table
 pub mod WellFormed
 pub mod Sheets

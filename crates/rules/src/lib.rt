@@ -2,6 +2,7 @@
 #![tactic(auto)]
 
 ghost use Rattle.std.specs.Prelude.{◌≡◌};
+ghost use Rattle.rules.specs.Coded.{number_of, kind_told};
 ghost use Rattle.rules.specs.Desks.{cleared, begun, ended};
 
 // How many there are: relays and desks, both together, message places, a relay's generators or transfers, views in a sequence.
@@ -17,41 +18,62 @@ pub const SEATS: usize = 8;
 
 pub const VIEWS: usize = 15;
 
-// The refusals, as document 01's table of answers numbers them.
-pub const BAD_WORLD: u8 = 1;
+// The refusals, as document 01's table of answers numbers them; 0 is "done".
+#[derive(Clone, Copy, PartialEq, Eq, Debug)]
+pub enum Refusal {
+    BadWorld = 1,
+    BadStep,
+    Empty,
+    Dead,
+    NotNow,
+    NotYet,
+    Worn,
+    NoRoom,
+    BadSheet,
+}
 
-pub const BAD_STEP: u8 = 2;
-
-pub const EMPTY: u8 = 3;
-
-pub const DEAD: u8 = 4;
-
-pub const NOT_NOW: u8 = 5;
-
-pub const NOT_YET: u8 = 6;
-
-pub const WORN: u8 = 7;
-
-pub const NO_ROOM: u8 = 8;
-
-pub const BAD_SHEET: u8 = 9;
+impl Refusal {
+    pub fn number(self) -> u8
+        ensures { result ≡ number_of self }
+    {
+        self as u8
+    }
+}
 
 // The kinds of steps: "1 JOIN relay, 2 LEAVE relay, 3 TIMER relay, 4 READ desk, 5 WRITE desk value, 6 DELIVER place, 7 DROP place, 8 CRASH who".
-pub const JOIN: u8 = 1;
+#[derive(Clone, Copy, PartialEq, Eq, Debug)]
+pub enum StepKind {
+    Join = 1,
+    Leave,
+    Timer,
+    Read,
+    Write,
+    Deliver,
+    Drop,
+    Crash,
+}
 
-pub const LEAVE: u8 = 2;
+// BAD STEP: "kind [..] out of range"
+impl TryFrom<u8> for StepKind {
+    type Error = Refusal;
 
-pub const TIMER: u8 = 3;
+    ghost try_from_gives = { λ number result. result ≡ kind_told number };
 
-pub const READ: u8 = 4;
-
-pub const WRITE: u8 = 5;
-
-pub const DELIVER: u8 = 6;
-
-pub const DROP: u8 = 7;
-
-pub const CRASH: u8 = 8;
+    #[tactic(auto, unfolding(crate::specs::Coded::kind_told))]
+    fn try_from(number: u8) -> Result<Self, Refusal> {
+        match number {
+            1 => Ok(StepKind::Join),
+            2 => Ok(StepKind::Leave),
+            3 => Ok(StepKind::Timer),
+            4 => Ok(StepKind::Read),
+            5 => Ok(StepKind::Write),
+            6 => Ok(StepKind::Deliver),
+            7 => Ok(StepKind::Drop),
+            8 => Ok(StepKind::Crash),
+            _ => Err(Refusal::BadStep),
+        }
+    }
+}
 
 // A step as a sheet has it.
 #[derive(Clone, Copy)]
