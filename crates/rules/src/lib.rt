@@ -75,8 +75,8 @@ impl TryFrom<u8> for StepKind {
     }
 }
 
-// A step as a sheet has it.
-#[derive(Clone, Copy)]
+// A step as a sheet has it: any bytes and any value.
+#[derive(Clone, Copy, PartialEq, Eq, Debug)]
 pub struct Step {
     pub kind: u8,
     pub id: u8,
@@ -84,7 +84,7 @@ pub struct Step {
 }
 
 // "phase (idle, read 1, read 2, write 1, write 2)"
-#[derive(Clone, Copy)]
+#[derive(Clone, Copy, PartialEq, Eq, Debug)]
 pub enum Phase {
     Idle,
     Read1,

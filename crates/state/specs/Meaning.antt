@@ -1,6 +1,6 @@
 -- What the code's values mean, in the words of the rules. A row of views means the list of its views, so unused entries of a row mean nothing.
 -- Assumes nothing.
-use Rattle.std.specs.Prelude.{Bool, List, [], ◌∷◌, map, ℕ, if◌then◌else◌}
+use Rattle.std.specs.Prelude.{List, [], ◌∷◌, map, ℕ, Option, None, Some}
 use Rattle.views.specs.Row.{views_of}
 use Rattle.rules.specs.Messages as rules
 use Rattle.rules.specs.State.{Relay}
@@ -58,12 +58,14 @@ relay_of h gs ts =
       transfers = ts;
     }
 
-abbrev pub as_list : {A : Type 0} → Bool → A → List A
-as_list b x = if b then x ∷ [] else []
+-- what is there, if anything, as a list of what it means
+abbrev pub listed : {A B : Type 0} → (A → B) → Option A → List B
+listed means None = []
+listed means (Some x) = means x ∷ []
 
 -- the relay that a part shows: one with that generator and that transfer, if any, and no others
 unfoldable pub part_of : Part → Relay
-part_of p = relay_of p.head (as_list p.generates (generator_of p.generator)) (as_list p.transfers (transfer_of p.transfer))
+part_of p = relay_of p.head (listed generator_of p.generator) (listed transfer_of p.transfer)
 
 -- a body from one to another, field by field, as the image has a message's row
 abbrev pub addressed_row : ℕ → ℕ → Body → Row

@@ -1,12 +1,14 @@
 -- What a plan says, and the plan that a rule's answer asks for. Assumes nothing.
-use Rattle.std.specs.Prelude.{List, [], ◌∷◌, ℕ, zero, suc}
+use Rattle.std.specs.Prelude.{List, [], ◌∷◌, ℕ, zero, suc, Result, Ok, Err}
 use Rattle.rules.specs.Messages.{Sending, ack, Event, nothing, number, Answer, refused, does}
-use Rattle.rules.specs.State.{Relay, Generator}
+use Rattle.rules.specs.State.{Relay, Generator, no_relay, no_desk}
+use Rattle.rules.specs.Coded.{number_of}
+use Rattle.rules.specs.declared.Refusal.{Refusal}
 use Rattle.rules.specs.declared.Desk.{Desk}
 use Rattle.rules.specs.Generators.{Turn}
 use Rattle.state.specs.declared.Turn as code-turn
 use Rattle.state.specs.declared.Plan.{Plan}
-use Rattle.state.specs.declared.DeskPlan.{DeskPlan}
+use Rattle.state.specs.declared.Part.{Part}
 use Rattle.state.specs.Meaning.{generator_of, part_of, sendings_of, event_of}
 
 -- nothing is sent
@@ -52,8 +54,13 @@ unfoldable pub planned : {A : Type 0} → A → Answer A → Planned A
 planned blank (refused x) = record { answer = number x; next = blank; sendings = bounded []; event = nothing }
 planned blank (does a ss e) = record { answer = 0; next = a; sendings = bounded ss; event = e }
 
-unfoldable pub plan_of : Plan → Planned Relay
-plan_of p = record { answer = p.answer; next = part_of p.part; sendings = sendings_of p.sends; event = event_of p.event }
+-- what the code answers, by what each of its values means; of a refusal, everything but the number is blank
+abbrev pub planned_by : {T A : Type 0} → (T → A) → A → Result (Plan T) Refusal → Planned A
+planned_by means blank (Ok p) = record { answer = 0; next = means p.next; sendings = sendings_of p.sends; event = event_of p.event }
+planned_by means blank (Err x) = record { answer = number_of x; next = blank; sendings = bounded []; event = nothing }
 
-unfoldable pub desk_plan_of : DeskPlan → Planned Desk
-desk_plan_of p = record { answer = p.answer; next = p.desk; sendings = sendings_of p.sends; event = event_of p.event }
+unfoldable pub plan_of : Result (Plan Part) Refusal → Planned Relay
+plan_of = planned_by part_of no_relay
+
+unfoldable pub desk_plan_of : Result (Plan Desk) Refusal → Planned Desk
+desk_plan_of = planned_by (λ d. d) no_desk

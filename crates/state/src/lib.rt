@@ -96,26 +96,14 @@ pub struct Turn {
 #[derive(Clone, Copy)]
 pub struct Part {
     pub head: Head,
-    pub generates: bool,
-    pub generator: Generator,
-    pub transfers: bool,
-    pub transfer: Transfer,
+    pub generator: Option<Generator>,
+    pub transfer: Option<Transfer>,
 }
 
-// What one relay answers to one thing that is put to it: a refusal's number, or 0 with what it then is, what it sends, and the event.
+// What one relay, or one desk, does about one thing that is put to it: what it then is, what it sends, and the event. A rule answers this, or a refusal.
 #[derive(Clone, Copy)]
-pub struct Plan {
-    pub answer: u8,
-    pub part: Part,
-    pub sends: Sendings,
-    pub event: Event,
-}
-
-// The same of a desk.
-#[derive(Clone, Copy)]
-pub struct DeskPlan {
-    pub answer: u8,
-    pub desk: rules::Desk,
+pub struct Plan<T> {
+    pub next: T,
     pub sends: Sendings,
     pub event: Event,
 }
