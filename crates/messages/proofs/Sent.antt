@@ -1,11 +1,10 @@
 -- What the makers of sendings make: the rule's sendings, in the room that a plan has. Assumes nothing.
 use mathlib.Core.Path.{◌≡◌, refl, ap, ◌∙◌}
-use mathlib.Core.List.{List, [], ◌∷◌, ◌++◌, map}
-use Prim.Native.Nat.{ℕ, zero, suc, ◌+◌, ◌-◌, ◌≤◌, ◌<◌, suc-le-suc}
+use mathlib.Core.List.{List, [], ◌∷◌, map}
+use Prim.Native.Nat.{ℕ, zero, suc, ◌≤◌}
 use native.Mathlib.Nat.{le_of_suc-le-suc}
-use native.Mathlib.Numerals.{add-one}
 use native.Mathlib.Omega.{arith}
-use lib.ListN.{length, get_or, set, take, drop}
+use lib.ListN.{length, take}
 use Rattle.rules.specs.Messages as rules
 use Rattle.state.specs.declared.Sending.{Sending}
 use Rattle.state.specs.declared.Sendings.{Sendings}
@@ -54,20 +53,3 @@ pub before_means : {r : Sendings} (s : Sending) (x : Sendings) (ss : List rules.
     → sendings_of r ≡ bounded (sending_of s ∷ ss)
 unfolding sendings_of
 before_means s x ss e f = all_means (s ∷ x.of) e ∙ rw f (padded_front no_sending most (sending_of s) ss)
-
--- ---- one list written over another, from the front
-
-module _ {A : Type 0} (d : A) where
-  over_more : (l m : List A) (i : ℕ) → i < length l → i < length m → set (take i l ++ drop i m) i (get_or l i d) ≡ take (suc i) l ++ drop (suc i) m
-  over_more [] m i h k = absurd (omega arith)
-  over_more (x ∷ l) [] i h k = absurd (omega arith)
-  over_more (x ∷ l) (y ∷ m) zero h k = refl
-  over_more (x ∷ l) (y ∷ m) (suc i) h k = ap (λ (t : List A). x ∷ t) (over_more l m i (le_of_suc-le-suc h) (le_of_suc-le-suc k))
-
-  -- x, and then the list l
-  pub shifted_more : (x : A) (l m t : List A) (i : ℕ) → 1 ≤ i → i ≤ length l → i < length m → t ≡ take i (x ∷ l) ++ drop i m
-      → set t i (get_or l (i - 1) d) ≡ take (i + 1) (x ∷ l) ++ drop (i + 1) m
-  shifted_more x l m t zero p h k e = absurd (omega arith)
-  shifted_more x l m t (suc i) p h k e =
-      let j : suc i - 1 ≡ i = omega arith in
-      rw (e, j, add-one) (over_more (x ∷ l) m (suc i) (suc-le-suc h) k)

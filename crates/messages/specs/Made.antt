@@ -10,6 +10,8 @@ use Rattle.layout.specs.Image.{body_row}
 use Rattle.state.specs.declared.Body.{Body}
 use Rattle.state.specs.declared.Sending.{Sending}
 use Rattle.state.specs.declared.Sendings.{Sendings}
+use Rattle.state.specs.declared.Event.{Event}
+use Rattle.state.specs.declared.Plan.{Plan}
 use Rattle.state.specs.Plans.{most, padded}
 
 -- of this kind, and it says nothing yet
@@ -40,6 +42,10 @@ to_nobody = send_to 0 (made (rules.ack 0))
 -- these, in their order; the rest of the room is sent to nobody
 unfoldable pub all_sent : List Sending → Sendings
 all_sent ss = record { of = padded most to_nobody ss }
+
+-- what is so next, these sendings, and this event
+unfoldable pub plan_of_all : {T : Type 0} → T → List Sending → Event → Plan T
+plan_of_all next ss e = record { next = next; sends = all_sent ss; event = e }
 
 -- a set of receivers has the numbers 0 to 15: of any other, nobody
 abbrev pub one_of : ℕ → ℕ
