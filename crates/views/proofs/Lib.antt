@@ -7,5 +7,3 @@ pub mod Nested
 pub mod Merge
 pub mod Rows
 pub mod Fits
-pub mod Scans
-pub mod Gathers

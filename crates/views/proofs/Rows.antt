@@ -6,8 +6,9 @@ use mathlib.Core.List.{List, [], ◌∷◌, ◌++◌, append_assoc}
 use Prim.Native.Nat.{ℕ, zero, suc, ◌+◌, ◌-◌, ◌≤◌, ◌<◌, min}
 use native.Mathlib.Omega.{arith}
 use lib.Dec.{eqb, ltb}
-use lib.ListN.{length, set, get_or, take, replicate, length-append, length-take, get_or-eq_default}
-use lib.Seq.{take_all, take-take, take-append_seam, take-append-le, get_or-take, set-append_seam}
+use lib.ListN.{length, set, get_or, take, replicate, length-append, length-take}
+use lib.Seq.{take_all, take-take, take-append_seam, take-append-le, set-append_seam}
+use Rattle.std.proofs.lemmas.List.{take_min, take_more}
 use Rattle.views.specs.declared.Sequence.{Sequence}
 use Rattle.views.specs.Chain.{plus_of}
 use Rattle.views.specs.Row.{views_of, row_of}
@@ -19,12 +20,10 @@ module _ (q : Sequence) (full : length q.views ≡ 15) where
   unfolding views_of
   views_length = rw (length-take, full)
 
-  pub views_at : (i : ℕ) → i < length (views_of q) → get_or (views_of q) i 0 ≡ get_or q.views i 0
+  -- the code's part of the row: of a length above 15, all fifteen entries
+  pub views_first : (n : ℕ) → n ≡ min q.len 15 → take n q.views ≡ views_of q
   unfolding views_of
-  views_at i h = get_or-take q.len q.views i 0 (omega (arith, views_length))
-
-pub views_past : (q : Sequence) (i : ℕ) → length (views_of q) ≤ i → get_or (views_of q) i 0 ≡ 0
-views_past q i h = get_or-eq_default (views_of q) 0 h
+  views_first n e = rw (e, ← full, take_min)
 
 -- ---- the row of a list: only the first fifteen count
 
@@ -60,6 +59,15 @@ take_front (suc n) (w ∷ x) y = ap (λ (l : List ℕ). w ∷ l) (take_front n x
 
 pub row-append : (x y : List ℕ) → row_of (take 15 x ++ y) ≡ row_of (x ++ y)
 row-append x y = row_same _ _ (take_front 15 x y)
+
+-- a row of l, and then the views m: the row of both
+pub row_joined : (a r : Sequence) (l m : List ℕ) → a ≡ row_of l → r ≡ row_of (views_of a ++ m) → r ≡ row_of (l ++ m)
+row_joined a r l m e f = f ∙ rw (held a l e, row-append)
+
+-- one more of the views of xs
+pub row_more : (a r : Sequence) (l xs : List ℕ) (i : ℕ) → i < length xs → a ≡ row_of (l ++ take i xs) → r ≡ row_of (views_of a ++ (get_or xs i 0 ∷ []))
+    → r ≡ row_of (l ++ take (i + 1) xs)
+row_more a r l xs i h e f = row_joined a r _ _ e f ∙ rw (take_more xs i 0 h, append_assoc)
 
 take_cons : (n w : ℕ) (l : List ℕ) → take n (w ∷ take n l) ≡ take n (w ∷ l)
 take_cons zero w l = refl

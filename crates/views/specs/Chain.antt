@@ -1,14 +1,14 @@
 -- "A sequence is a set of views of which any two are nested." It is written as the list of its views in ascending order, innermost first, each once.
 -- Assumes nothing.
-use Rattle.std.specs.Prelude.{Bool, true, false, not, ◌&&◌, ◌||◌, List, [], ◌∷◌, ℕ, ◌-◌, eqb, ltb, length, get_or, if◌then◌else◌}
+use Rattle.std.specs.Prelude.{Bool, true, false, not, ◌&&◌, List, [], ◌∷◌, ℕ, ◌-◌, eqb, ltb, length, get_or, if◌then◌else◌}
 use Rattle.std.specs.Int.Bits.{bit_or}
+use Rattle.std.specs.List.{list_any}
 use Rattle.views.specs.Choice.{those}
 use Rattle.views.specs.View.{clash_of, inside_of}
 
 -- some view of the sequence passes the test
 unfoldable pub some : (ℕ → Bool) → List ℕ → Bool
-some f [] = false
-some f (v ∷ vs) = f v || some f vs
+some f vs = list_any f vs
 
 -- v is one of the views
 abbrev pub has_of : List ℕ → ℕ → Bool

@@ -1,7 +1,8 @@
 // Document 01, "Sets and sequences": views, and the sequences of views that a generator keeps.
 #![tactic(auto)]
 
-ghost use Rattle.std.specs.Prelude.{◌≡◌, ◌≤◌, [], ◌∷◌, ◌++◌, length, get_or, drop};
+ghost use Rattle.std.specs.Prelude.{◌≡◌, ◌≤◌, [], ◌∷◌, ◌++◌, length, get_or, fold, reverse, leb, ◌<◌, IfSome};
+ghost use Rattle.std.specs.List.{position};
 ghost use Rattle.std.specs.Int.Bits.{bit_or};
 ghost use Rattle.views.specs.View.{members_of, member_of, quorum_of, reaches_of, within_of, inside_of, clash_of};
 ghost use Rattle.views.specs.Chain.{some, has_of, lacks_of, conflict_of, same_of, least_of, most_of, plus_of, union_of, heard_of, beyond_of, above_of};
@@ -24,17 +25,14 @@ fn push(q: Sequence, v: u16) -> Sequence
     r
 }
 
-// The views of r, and then those of q from place at on.
-fn rest(r: Sequence, q: Sequence, at: usize) -> Sequence
+// The views of r, and then these.
+fn rest(r: Sequence, views: &[u16]) -> Sequence
     requires { r ≡ row_of (views_of r) }
-    ensures { result ≡ row_of (views_of r ++ drop at (views_of q)) }
+    ensures { result ≡ row_of (views_of r ++ views.now) }
 {
     let mut a = r;
-    let n = count(q);
-    let mut i = at;
-    while i < n {
-        a = push(a, view_at(q, i));
-        i += 1;
+    for v in views {
+        a = push(a, *v);
     }
     a
 }
@@ -54,10 +52,7 @@ pub fn members(v: u16) -> u8
 pub fn is_member(v: u16, s: u8) -> bool
     ensures { result ≡ member_of v s }
 {
-    if 8 <= s {
-        return false;
-    }
-    (members(v) >> s) % 2 == 1
+    s < 8 && (members(v) >> s) % 2 == 1
 }
 
 // Half the member count, rounded down, plus 1.
@@ -89,16 +84,11 @@ pub fn inside(a: u16, b: u16) -> bool
 }
 
 // The two differ and neither includes the other.
+#[tactic(auto, unfolding(crate::specs::View::clash_of))]
 pub fn clash(a: u16, b: u16) -> bool
     ensures { result ≡ clash_of a b }
 {
-    if a == b {
-        return false;
-    }
-    if inside(a, b) {
-        return false;
-    }
-    !inside(b, a)
+    a != b && !inside(a, b) && !inside(b, a)
 }
 
 // The updates of both.
@@ -117,6 +107,16 @@ pub struct Sequence {
     pub len: usize,
 }
 
+impl Sequence {
+    // The views that it has: "it has at most 15", so of a length above that all fifteen.
+    pub fn as_slice(&self) -> &[u16]
+        ensures views { result.now ≡ views_of self.now }
+        ensures short { length result.now ≤ 15 }
+    {
+        &self.views[..self.len.min(15)]
+    }
+}
+
 pub fn empty() -> Sequence
     ensures { result ≡ row_of [] }
 {
@@ -130,121 +130,71 @@ pub fn empty() -> Sequence
 pub fn count(q: Sequence) -> usize
     ensures { (result ≡ length (views_of q)) × (result ≤ 15) }
 {
-    if q.len < 15 {
-        return q.len;
-    }
-    15
+    q.as_slice().len()
 }
 
 // The view at place i; 0 where there is none.
 pub fn view_at(q: Sequence, i: usize) -> u16
     ensures { result ≡ get_or (views_of q) i 0 }
 {
-    if count(q) <= i {
-        return 0;
-    }
-    q.views[i]
+    q.as_slice().get(i).copied().unwrap_or(0)
 }
 
 // The same views, with the unused entries zero: two rows of the same views are then equal.
 pub fn kept(q: Sequence) -> Sequence
     ensures { result ≡ row_of (views_of q) }
 {
-    rest(empty(), q, 0)
+    rest(empty(), q.as_slice())
 }
 
 pub fn has(q: Sequence, v: u16) -> bool
     ensures { result ≡ has_of (views_of q) v }
 {
-    let n = count(q);
-    let mut i: usize = 0;
-    while i < n {
-        if v == view_at(q, i) {
-            return true;
-        }
-        i += 1;
-    }
-    false
+    q.as_slice().contains(&v)
 }
 
 // q has a view that own lacks.
+#[tactic(auto, unfolding(crate::specs::Chain::some))]
 pub fn lacks(q: Sequence, own: Sequence) -> bool
     ensures { result ≡ lacks_of (views_of q) (views_of own) }
 {
-    let n = count(q);
-    let mut i: usize = 0;
-    while i < n {
-        if !has(own, view_at(q, i)) {
-            return true;
-        }
-        i += 1;
-    }
-    false
+    q.as_slice().iter().any(|v| !has(own, *v))
 }
 
 // Some view of own clashes with v.
+#[tactic(auto, unfolding(crate::specs::Chain::some))]
 fn clashes(v: u16, own: Sequence) -> bool
     ensures { result ≡ some (clash_of v) (views_of own) }
 {
-    let n = count(own);
-    let mut i: usize = 0;
-    while i < n {
-        if clash(v, view_at(own, i)) {
-            return true;
-        }
-        i += 1;
-    }
-    false
+    own.as_slice().iter().any(|w| clash(v, *w))
 }
 
 // Some view of q and some view of own differ and neither includes the other.
+#[tactic(auto, unfolding(crate::specs::Chain::some))]
 pub fn conflict(q: Sequence, own: Sequence) -> bool
     ensures { result ≡ conflict_of (views_of q) (views_of own) }
 {
-    let n = count(q);
-    let mut i: usize = 0;
-    while i < n {
-        if clashes(view_at(q, i), own) {
-            return true;
-        }
-        i += 1;
-    }
-    false
+    q.as_slice().iter().any(|v| clashes(*v, own))
 }
 
 pub fn same(a: Sequence, b: Sequence) -> bool
     ensures { result ≡ same_of (views_of a) (views_of b) }
 {
-    let n = count(a);
-    if n != count(b) {
-        return false;
-    }
-    let mut i: usize = 0;
-    while i < n {
-        if view_at(a, i) != view_at(b, i) {
-            return false;
-        }
-        i += 1;
-    }
-    true
+    a.as_slice() == b.as_slice()
 }
 
 // The innermost view; 0 where there is none.
 pub fn least(q: Sequence) -> u16
     ensures { result ≡ least_of (views_of q) }
 {
-    view_at(q, 0)
+    q.as_slice().first().copied().unwrap_or(0)
 }
 
 // The outermost view; 0 where there is none.
 pub fn most(q: Sequence) -> u16
     ensures { result ≡ most_of (views_of q) }
 {
-    let n = count(q);
-    if n == 0 {
-        return 0;
-    }
-    view_at(q, n - 1)
+    q.as_slice().last().copied().unwrap_or(0)
 }
 
 pub fn single(v: u16) -> Sequence
@@ -253,38 +203,40 @@ pub fn single(v: u16) -> Sequence
     push(empty(), v)
 }
 
+// The place of the first of the views that is not below v.
+fn place_for(v: u16, views: &[u16]) -> Option<usize>
+    ensures within { IfSome result (λ i. i < length views.now) }
+    ensures place { result ≡ position (leb v) views.now }
+{
+    views.iter().position(|w| v <= *w)
+}
+
 // One view more, at its place.
 pub fn plus(v: u16, q: Sequence) -> Sequence
     ensures { result ≡ row_of (plus_of v (views_of q)) }
 {
-    let mut a = empty();
-    let n = count(q);
-    let mut i: usize = 0;
-    while i < n {
-        let w = view_at(q, i);
-        if v < w {
-            return rest(push(a, v), q, i);
-        }
-        if v == w {
-            return rest(a, q, i);
-        }
-        a = push(a, w);
-        i += 1;
+    let views = q.as_slice();
+    let place = place_for(v, views).unwrap_or(views.len());
+    let (below, onward) = views.split_at(place);
+    let start = rest(empty(), below);
+    if onward.starts_with(&[v]) {
+        return rest(start, onward);
     }
-    push(a, v)
+    rest(push(start, v), onward)
+}
+
+// The views of b and these, each put at its place, the outermost first.
+fn all_placed(views: &[u16], b: Sequence) -> Sequence
+    ensures { result ≡ fold (λ r v. row_of (plus_of v (views_of r))) b (reverse views.now) }
+{
+    views.iter().rev().fold(b, |r, v| plus(*v, r))
 }
 
 // "otherwise own becomes the union of both"
 pub fn union(a: Sequence, b: Sequence) -> Sequence
     ensures { result ≡ row_of (union_of (views_of a) (views_of b)) }
 {
-    let mut r = kept(b);
-    let mut i = count(a);
-    while 0 < i {
-        i -= 1;
-        r = plus(view_at(a, i), r);
-    }
-    r
+    all_placed(a.as_slice(), kept(b))
 }
 
 // The own sequence after the proposal q is heard: the Proposal rule.
@@ -305,15 +257,10 @@ pub fn beyond(w: u16, q: Sequence) -> Sequence
     ensures { result ≡ row_of (beyond_of w (views_of q)) }
 {
     let mut a = empty();
-    let n = count(q);
-    let mut i: usize = 0;
-    while i < n {
-        let x = view_at(q, i);
-        i += 1;
-        if !inside(w, x) {
-            continue;
+    for x in q.as_slice() {
+        if inside(w, *x) {
+            a = push(a, *x);
         }
-        a = push(a, x);
     }
     a
 }
@@ -322,16 +269,12 @@ pub fn beyond(w: u16, q: Sequence) -> Sequence
 pub fn above(v: u16, q: Sequence) -> bool
     ensures { result ≡ above_of v (views_of q) }
 {
-    let n = count(q);
     let mut last = v;
-    let mut i: usize = 0;
-    while i < n {
-        let w = view_at(q, i);
-        if !inside(last, w) {
+    for w in q.as_slice() {
+        if !inside(last, *w) {
             return false;
         }
-        last = w;
-        i += 1;
+        last = *w;
     }
     true
 }

@@ -1,14 +1,9 @@
--- `views::beyond` meets its contract. Assumes nothing.
-use Prim.Native.Nat.{◌-◌}
+-- `views::beyond` meets its contract. The invariant: the row holds those that pass of the views read so far. Assumes nothing.
+use Rattle.std.proofs.Common.{◌≡◌, take}
 use Rattle.views.specs.Choice.{those}
 use Rattle.views.specs.View.{inside_of}
-use Rattle.views.specs.Chain.{beyond_of}
-use Rattle.views.specs.Row.{views_of, row_of}
-use Rattle.views.proofs.Gathers.{Gathers}
+use Rattle.views.specs.Row.{row_of}
 use Rattle.views.proofs.beyond.Given as goal
 
-abbrev pub invariant-loop-i : goal.invariant-loop-i
-invariant-loop-i l = Gathers l.a (those (inside_of l.w)) l.i (views_of l.q) (row_of (beyond_of l.w (views_of l.q)))
-
-abbrev pub decreases-loop-i : goal.decreases-loop-i
-decreases-loop-i l = l.n - l.i
+abbrev pub invariant-loop-x : goal.invariant-loop-x
+invariant-loop-x l = l.a ≡ row_of (those (inside_of l.w) (take l.x-index l.x-items))

@@ -1,21 +1,18 @@
--- `views::has` meets its contract: what is left of the scan from place i on answers for the whole. Assumes nothing.
-use Rattle.views.proofs.Scans.{scans}
+-- `views::has` meets its contract: the library asks each view whether it is v, and the definition asks v. Assumes nothing.
+use Rattle.std.proofs.Common.{◌≡◌, ◌∙◌, ap₂, List, [], ◌∷◌, ℕ, ◌||◌, refl, arith}
+use Rattle.std.proofs.lemmas.Bool.Decides.{nat_tests}
+use Rattle.std.specs.List.{list_any}
+use Rattle.views.specs.Chain.{some, has_of}
+use lib.Dec.{eqb}
 use Rattle.views.proofs.has.Goals as goal
 
-pub loop-i-init : goal.loop-i-init
-loop-i-init c = search scans
+swapped : (a b : ℕ) → eqb a b ≡ eqb b a
+swapped a b = grind (arith, nat_tests)
 
-pub returns-then-v-view_at : goal.returns-then-v-view_at
-returns-then-v-view_at c = search scans
-
-pub overflow_add-i : goal.overflow_add-i
-overflow_add-i c = search scans
-
-pub loop-i-smaller : goal.loop-i-smaller
-loop-i-smaller c = search scans
-
-pub loop-i-preserved : goal.loop-i-preserved
-loop-i-preserved c = search scans
+asked : (v : ℕ) (l : List ℕ) → list_any (λ w. eqb w v) l ≡ has_of l v
+unfolding some
+asked v [] = refl
+asked v (w ∷ l) = ap₂ ◌||◌ (swapped w v) (asked v l)
 
 pub returns : goal.returns
-returns c = search scans
+returns c = c.contains.ensures.value ∙ rw c.as_slice.ensures.views (asked c.args.v _)

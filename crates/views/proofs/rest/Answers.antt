@@ -1,22 +1,9 @@
--- `views::rest` meets its contract. Assumes nothing.
-use mathlib.Core.Path.{refl}
-use Rattle.views.proofs.Gathers.{gathers}
+-- `views::rest` meets its contract. The invariant: the row holds the views of r and those read so far. Assumes nothing.
+use Rattle.views.proofs.Rows.{clean_row, row_more}
 use Rattle.views.proofs.rest.Goals as goal
 
-pub loop-i-init : goal.loop-i-init
-loop-i-init c = record { clean = c.requires; whole = refl }
-
 pub push-a-requires : goal.push-a-requires
-push-a-requires c = search gathers
+push-a-requires c = clean_row _ _ c.loop-v.invariant
 
-pub overflow_add-i : goal.overflow_add-i
-overflow_add-i c = search gathers
-
-pub loop-i-smaller : goal.loop-i-smaller
-loop-i-smaller c = search gathers
-
-pub loop-i-preserved : goal.loop-i-preserved
-loop-i-preserved c = search gathers
-
-pub returns : goal.returns
-returns c = search gathers
+pub loop-v-preserved : goal.loop-v-preserved
+loop-v-preserved c = row_more _ _ _ _ _ c.loop-v-test.true c.loop-v.invariant c.push-a.ensures

@@ -1,13 +1,7 @@
--- `views::rest` meets its contract. Assumes nothing.
-use mathlib.Core.List.{◌++◌}
-use Prim.Native.Nat.{◌-◌}
-use lib.ListN.{drop}
+-- `views::rest` meets its contract. The invariant: the row holds the views of r and those read so far. Assumes nothing.
+use Rattle.std.proofs.Common.{◌≡◌, ◌++◌, take}
 use Rattle.views.specs.Row.{views_of, row_of}
-use Rattle.views.proofs.Gathers.{Gathers}
 use Rattle.views.proofs.rest.Given as goal
 
-abbrev pub invariant-loop-i : goal.invariant-loop-i
-invariant-loop-i l = Gathers l.a (λ l. l) l.i (views_of l.q) (row_of (views_of l.initial.a ++ drop l.initial.i (views_of l.q)))
-
-abbrev pub decreases-loop-i : goal.decreases-loop-i
-decreases-loop-i l = l.n - l.i
+abbrev pub invariant-loop-v : goal.invariant-loop-v
+invariant-loop-v l = l.a ≡ row_of (views_of l.initial.a ++ take l.v-index l.views)

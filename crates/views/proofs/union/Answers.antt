@@ -1,30 +1,19 @@
--- `views::union` meets its contract. The invariant: r holds the union of b with the views of a from place i on. Assumes nothing.
-use mathlib.Core.Path.{◌≡◌, ap, sym, ◌∙◌}
-use Prim.Native.Nat.{◌+◌, ◌-◌}
-use native.Mathlib.Omega.{arith}
-use lib.ListN.{length}
-use borrow.Author.Rules.{rules}
-use Rattle.views.specs.Row.{row_of}
-use Rattle.views.proofs.Rows.{clean_row, held_same}
-use Rattle.views.proofs.Gathers.{union_start, union_row}
+-- `views::union` meets its contract: the definition puts the views at their places from the outermost down. Assumes nothing.
+use Rattle.std.proofs.Common.{◌≡◌, ◌∙◌, ap, List, [], ◌∷◌, ℕ, reverse, fold}
+use Rattle.std.proofs.lemmas.List.{reverse-append}
+use Rattle.std.proofs.lemmas.List.Sums.{fold-append}
+use Rattle.views.specs.declared.Sequence.{Sequence}
+use Rattle.views.specs.Chain.{plus_of, union_of}
+use Rattle.views.specs.Row.{views_of, row_of}
+use Rattle.views.proofs.Rows.{held, row-plus}
 use Rattle.views.proofs.union.Goals as goal
 
-pub loop-i-init : goal.loop-i-init
-loop-i-init c = (omega arith, clean_row _ _ c.kept-r.ensures ∙ ap row_of (sym (union_start _ _ _ c.count-i.ensures.0)))
-
-pub overflow_sub-i : goal.overflow_sub-i
-overflow_sub-i c = omega arith
-
-pub loop-i-smaller : goal.loop-i-smaller
-loop-i-smaller c = omega arith
-
-pub loop-i-preserved : goal.loop-i-preserved
-loop-i-preserved c =
-    let back : c.loop-i.i ≡ c.loop-i.i - 1 + 1 = omega arith in
-    (omega arith, union_row _ _ (c.loop-i.i - 1) _ c.loop-i.r _ c.view_at.ensures (omega arith) (rw back at c.loop-i.invariant.1) c.plus-r.ensures)
+placed : (a l : List ℕ) (b : Sequence) → b ≡ row_of l → fold (λ r v. row_of (plus_of v (views_of r))) b (reverse a) ≡ row_of (union_of a l)
+unfolding union_of
+placed [] l b e = e
+placed (v ∷ a) l b e =
+    let f : Sequence → ℕ → Sequence = λ r w. row_of (plus_of w (views_of r)) in
+    ap (fold f b) (reverse-append (v ∷ []) a) ∙ fold-append f b (reverse a) (v ∷ []) ∙ rw (held _ _ (placed a l b e), row-plus)
 
 pub returns : goal.returns
-returns c =
-    let full : length c.args.b.views ≡ 15 = search rules in
-    let done : c.loop-i.i ≡ 0 = omega arith in
-    c.loop-i.invariant.1 ∙ rw (done, held_same _ c.args.b full c.kept-r.ensures)
+returns c = c.all_placed.ensures ∙ rw c.as_slice.ensures.views (placed _ _ c.kept.result c.kept.ensures)
