@@ -16,7 +16,7 @@ pub const PLACES: usize = 256;
 
 pub const SEATS: usize = 8;
 
-pub const VIEWS: usize = 15;
+pub const VIEWS: usize = views::VIEWS;
 
 // The refusals, as document 01's table of answers numbers them; 0 is "done".
 #[derive(Clone, Copy, PartialEq, Eq, Debug)]

@@ -101,12 +101,15 @@ row_room l v h =
     let k : take 15 (l ++ (v ∷ [])) ≡ l ++ (v ∷ []) = take_all 15 _ (simp length-append (omega arith)) in
     ap₂ mk (rw (g, e, set-append_seam l 0 (replicate m 0) v, k, f, append_assoc)) (rw (k, length-append))
 
-module _ (q : Sequence) (v : ℕ) (clean : q ≡ row_of (views_of q)) where
-  pub pushed_full : 15 ≤ length (views_of q) → q ≡ row_of (views_of q ++ (v ∷ []))
-  pushed_full h = clean ∙ row_same _ _ (sym (take-append-le 15 (views_of q) (v ∷ []) h))
+module _ (q : Sequence) (v : ℕ) (clean : q ≡ row_of (views_of q)) (full : length q.views ≡ 15) where
+  pub pushed_full : 15 ≤ q.len → q ≡ row_of (views_of q ++ (v ∷ []))
+  pushed_full h =
+      let long : 15 ≤ length (views_of q) = omega (arith, views_length q full) in
+      clean ∙ row_same _ _ (sym (take-append-le 15 (views_of q) (v ∷ []) long))
 
-  pub pushed : (n : ℕ) → n ≡ length (views_of q) → n < 15 → mk (set q.views n v) (n + 1) ≡ row_of (views_of q ++ (v ∷ []))
-  pushed n e h =
-      ap (λ (k : ℕ). mk (set q.views k v) (k + 1)) e
+  pub pushed : q.len < 15 → mk (set q.views q.len v) (q.len + 1) ≡ row_of (views_of q ++ (v ∷ []))
+  pushed h =
+      let n : q.len ≡ length (views_of q) = omega (arith, views_length q full) in
+      ap (λ (k : ℕ). mk (set q.views k v) (k + 1)) n
       ∙ ap (λ (r : Sequence). mk (set r.views (length (views_of q)) v) (length (views_of q) + 1)) clean
       ∙ row_room (views_of q) v (omega arith)

@@ -15,13 +15,11 @@ fn push(q: Sequence, v: u16) -> Sequence
     requires { q ≡ row_of (views_of q) }
     ensures { result ≡ row_of (views_of q ++ (v ∷ [])) }
 {
-    let n = count(q);
-    if n == 15 {
-        return q;
-    }
     let mut r = q;
-    r.views[n] = v;
-    r.len = n + 1;
+    if r.len < VIEWS {
+        r.views[r.len] = v;
+        r.len += 1;
+    }
     r
 }
 
@@ -43,8 +41,7 @@ fn rest(r: Sequence, views: &[u16]) -> Sequence
 pub fn members(v: u16) -> u8
     ensures { result ≡ members_of v }
 {
-    let joined = (v % 256) as u8;
-    let left = (v / 256) as u8;
+    let [joined, left] = v.to_le_bytes();
     joined & !left
 }
 
@@ -59,14 +56,14 @@ pub fn is_member(v: u16, s: u8) -> bool
 pub fn quorum(v: u16) -> u32
     ensures { result ≡ quorum_of v }
 {
-    u32::count_ones(members(v) as u32) / 2 + 1
+    members(v).count_ones() / 2 + 1
 }
 
 // The members of v among `who` are a quorum of it.
 pub fn reaches(v: u16, who: u8) -> bool
     ensures { result ≡ reaches_of v who }
 {
-    quorum(v) <= u32::count_ones((who & members(v)) as u32)
+    quorum(v) <= (who & members(v)).count_ones()
 }
 
 // Every update of a is in b.
@@ -83,12 +80,11 @@ pub fn inside(a: u16, b: u16) -> bool
     within(a, b) && a != b
 }
 
-// The two differ and neither includes the other.
-#[tactic(auto, unfolding(crate::specs::View::clash_of))]
+// The two differ and neither includes the other; of equal views each includes the other.
 pub fn clash(a: u16, b: u16) -> bool
     ensures { result ≡ clash_of a b }
 {
-    a != b && !inside(a, b) && !inside(b, a)
+    !within(a, b) && !within(b, a)
 }
 
 // The updates of both.
@@ -100,20 +96,23 @@ pub fn join(a: u16, b: u16) -> u16
 
 // ---- sequences
 
+// "it has at most 15"
+pub const VIEWS: usize = 15;
+
 // A row of views, innermost first; the entries from len on are unused.
 #[derive(Clone, Copy)]
 pub struct Sequence {
-    pub views: [u16; 15],
+    pub views: [u16; VIEWS],
     pub len: usize,
 }
 
 impl Sequence {
-    // The views that it has: "it has at most 15", so of a length above that all fifteen.
+    // The views that it has: of a length above the row's, all fifteen.
     pub fn as_slice(&self) -> &[u16]
         ensures views { result.now ≡ views_of self.now }
         ensures short { length result.now ≤ 15 }
     {
-        &self.views[..self.len.min(15)]
+        &self.views[..self.len.min(VIEWS)]
     }
 }
 
@@ -121,7 +120,7 @@ pub fn empty() -> Sequence
     ensures { result ≡ row_of [] }
 {
     Sequence {
-        views: [0; 15],
+        views: [0; VIEWS],
         len: 0,
     }
 }

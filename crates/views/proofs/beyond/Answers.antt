@@ -31,6 +31,7 @@ push-a-requires c = clean_row _ _ c.loop-x.invariant
 pub loop-x-preserved : goal.loop-x-preserved
 loop-x-preserved c =
     rw (those_more _ _ _ c.loop-x-test.true, ← c.inside.ensures)
-    (elim c.if-inside.branch
-    [ then-inside w ↦ rw w.if-inside.true (w.a-is ∙ row_joined _ _ _ _ c.loop-x.invariant w.push-a.ensures)
-    | else-inside w ↦ rw (w.if-inside.false, append-nil) (w.a-is ∙ c.loop-x.invariant) ])
+    (elim c.if-inside.branch [
+      | then-inside w ↦ rw w.if-inside.true (w.a-is ∙ row_joined _ _ _ _ c.loop-x.invariant w.push-a.ensures)
+      | else-inside w ↦ rw (w.if-inside.false, append-nil) (w.a-is ∙ c.loop-x.invariant)
+    ])
