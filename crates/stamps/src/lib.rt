@@ -2,63 +2,52 @@
 #![tactic(auto)]
 
 ghost use Rattle.std.specs.Prelude.{◌≡◌};
-ghost use Rattle.stamps.specs.Stamp.{sign_of, compared_of, greater_of, same_of, greatest_of, fresh_pair};
+ghost use Rattle.stamps.specs.Stamp.{compared_of, greater_of, same_of, greatest_of, fresh_pair};
 
-#[derive(Clone, Copy)]
+// "A stamp is (count 0..65,535, desk 0..3), ordered by count, then desk": the derived order goes by the fields in this order.
+#[derive(Clone, Copy, PartialEq, Eq, PartialOrd, Ord, Debug, Default)]
 pub struct Stamp {
     pub count: u16,
     pub desk: u8,
 }
 
-#[derive(Clone, Copy)]
+#[derive(Clone, Copy, PartialEq, Eq, Debug, Default)]
 pub struct Pair {
     pub stamp: Stamp,
     pub value: u32,
 }
 
-fn sign(a: u16, b: u16, otherwise: i8) -> i8
-    ensures { result ≡ sign_of a b otherwise }
-{
-    if a < b {
-        return -1;
-    }
-    if b < a {
-        return 1;
-    }
-    otherwise
-}
-
+// "Comparing two stamps answers minus one, zero or one."
 pub fn compare(a: Stamp, b: Stamp) -> i8
     ensures { result ≡ compared_of a b }
 {
-    let by_desk = sign(a.desk as u16, b.desk as u16, 0);
-    sign(a.count, b.count, by_desk)
+    a.cmp(&b) as i8
 }
 
+// As in "Put stores if its stamp is greater".
 pub fn greater(a: Stamp, b: Stamp) -> bool
     ensures { result ≡ greater_of a b }
 {
-    compare(a, b) == 1
+    a > b
 }
 
+// As in "if all stamps agreed".
 pub fn same(a: Stamp, b: Stamp) -> bool
     ensures { result ≡ same_of a b }
 {
-    compare(a, b) == 0
+    a == b
 }
 
+// "Wherever the greatest stamp is kept, of equal stamps the pair already held stays."
 pub fn greatest(held: Pair, new: Pair) -> Pair
     ensures { result ≡ greatest_of held new }
 {
-    let order = compare(new.stamp, held.stamp);
-    if order == 1 { new } else { held }
+    if new.stamp > held.stamp { new } else { held }
 }
 
+// "Fresh record: stamp (0,0), value 0."
 pub fn fresh() -> Pair
     ensures { result ≡ fresh_pair }
 {
-    Pair {
-        stamp: Stamp { count: 0, desk: 0 },
-        value: 0,
-    }
+    Pair::default()
 }

@@ -1,14 +1,16 @@
--- `stamps::compare` meets its contract: the sign by count, and otherwise the sign by desk. Assumes nothing.
-use mathlib.Core.Path.{◌≡◌, ap, ◌∙◌}
-use mir.Syntax.{w8}
-use mir.Val.{to_z, of_z}
-use borrow.Author.Rules.{rules}
-use Rattle.stamps.specs.Stamp.{sign_of, compared_of}
+-- `stamps::compare` meets its contract: the library's three answers are the numbers minus one, zero and one. Assumes nothing.
+use Rattle.std.proofs.Common.{◌≡◌, ◌∙◌, refl, ◌+ℤ◌, negsuc, to_z, of_z, w8}
+use Rattle.std.specs.declared.cmp.Ordering.{Ordering}
+use Rattle.std.specs.declared.cmp.Ordering.TheVariants.{Less, Equal, Greater}
+use Rattle.std.specs.contracts.cmp.Ordering as ordering
+use denote.Enum.Declared.{tag_of}
+use Rattle.stamps.proofs.Derived.{number, numbered}
 use Rattle.stamps.proofs.compare.Goals as goal
 
+cast : (o : Ordering) → to_z w8 (of_z w8 (to_z w8 (tag_of ordering.the_type o) +ℤ negsuc 0)) ≡ number o
+cast Less = refl
+cast Equal = refl
+cast Greater = refl
+
 pub returns : goal.returns
-unfolding compared_of
-returns c =
-    let by_desk : to_z w8 (of_z w8 c.sign-by_desk.result) ≡ c.sign-by_desk.result = search rules in
-    let by_count : to_z w8 (of_z w8 c.sign.result) ≡ c.sign.result = search rules in
-    rw (by_count, c.sign.ensures) (ap (sign_of c.args.a.count c.args.b.count) (by_desk ∙ c.sign-by_desk.ensures))
+returns c = rw c.cmp.ensures (cast _ ∙ numbered c.args.a c.args.b)

@@ -1,6 +1,7 @@
 -- `stamps::greater` meets its contract. Assumes nothing.
-use Rattle.stamps.proofs.Order.{greater_bits}
+use Rattle.std.proofs.Common.{◌∙◌}
+use Rattle.stamps.proofs.Derived.{greater_derived}
 use Rattle.stamps.proofs.greater.Goals as goal
 
 pub returns : goal.returns
-returns c = greater_bits _ _ c.compare.ensures
+returns c = c.gt.ensures ∙ greater_derived c.args.a c.args.b

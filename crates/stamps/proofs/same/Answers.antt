@@ -1,6 +1,7 @@
 -- `stamps::same` meets its contract. Assumes nothing.
-use Rattle.stamps.proofs.Order.{same_bits}
+use Rattle.std.proofs.Common.{◌∙◌}
+use Rattle.stamps.proofs.Derived.{same_derived}
 use Rattle.stamps.proofs.same.Goals as goal
 
 pub returns : goal.returns
-returns c = same_bits _ _ c.compare.ensures
+returns c = c.eq.ensures ∙ same_derived c.args.a c.args.b
