@@ -5,3 +5,4 @@ pub mod Change
 pub mod Held
 pub mod Numbers
 pub mod All
+pub mod Row

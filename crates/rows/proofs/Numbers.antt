@@ -1,16 +1,17 @@
 -- Laws of numbers in bytes, high byte first, over how many bytes there are: each number is read back from its bytes, and bytes are those of
 -- the number that is read from them. The names with 16 and 32 are these laws at two and four bytes. Assumes nothing.
-use mathlib.Core.Path.{◌≡◌, refl, ap}
+use mathlib.Core.Path.{◌≡◌, refl, sym, ap, ◌∙◌}
+use mathlib.Core.Bool.{Bool, true, false}
 use mathlib.Core.List.{List, [], ◌∷◌, ◌++◌}
-use Prim.Native.Nat.{ℕ, zero, suc, ◌+◌, ◌*◌, ◌^◌, ◌/◌, ◌%◌, ◌≤◌, ◌<◌}
-use native.Mathlib.Numerals.{add-one}
+use Prim.Native.Nat.{ℕ, zero, suc, ◌+◌, ◌*◌, ◌^◌, ◌/◌, ◌%◌, ◌≤◌, ◌<◌, min}
 use native.Mathlib.Nat.{add_assoc, add-zero, pow-zero, pow-suc}
 use native.Mathlib.Omega.{arith}
 use mir.Syntax.{w8}
 use mir.Val.{Fits}
-use lib.ListN.{length, get_or, drop, length-append, drop_of_length-le, get_or-eq_default}
-use lib.Seq.{drop-cons, get_or-drop, drop-drop}
-use Rattle.rows.specs.Bytes.{bytes_of, fields_of, sum, number_at, be16, be32, u16_at, u32_at, run, zeros}
+use lib.Dec.{leb}
+use borrow.Author.Tests.{leb-true, leb-false}
+use lib.ListN.{length, get_or, length-append, get_or-eq_default}
+use Rattle.rows.specs.Bytes.{bytes_of, number_at, be16, be32, u16_at, u32_at, run, zeros}
 use Rattle.rows.proofs.Laws.{Holds, holds_self, holds-left, holds_right, holds-byte}
 use Rattle.rows.proofs.Held.{holds_nil, holds_one, holds-append}
 
@@ -28,6 +29,14 @@ pub number_past : (n : ℕ) (l : List ℕ) (o : ℕ) → length l ≤ o → numb
 unfolding number_at
 number_past zero l o h = refl
 number_past (suc n) l o h = let z : get_or l (o + n) 0 ≡ 0 = get_or-eq_default l 0 (omega arith) in rw (number_past n l o h, z)
+
+-- at a place past the largest number, and at that number itself, what ends before it reads zero
+pub capped : (f : ℕ → ℕ) (end place most p : ℕ) → ((k : ℕ) → end ≤ k → f k ≡ 0) → p ≡ min place most → end ≤ most → f p ≡ f place
+capped f end place most p past e h = go (leb place most) refl
+  where
+    go : (t : Bool) → leb place most ≡ t → f p ≡ f place
+    go true t = ap f (omega (arith, leb-true place most t))
+    go false t = let high = leb-false place most t in past p (omega arith) ∙ sym (past place (omega arith))
 
 -- what bytes hold is read back
 pub holds-number : (n : ℕ) (l : List ℕ) (o x : ℕ) → x < 256 ^ n → Holds l o (bytes_of n x) → number_at n l o ≡ x
@@ -59,42 +68,11 @@ unfolding bytes_of zeros run
 zeros-number zero = refl
 zeros-number (suc n) = ap (λ (l : List ℕ). l ++ (0 ∷ [])) (zeros-number n)
 
--- ---- a byte; fields: how long they are, where they end, and those from the i-th on
+-- ---- a byte
 
 pub byte-number : {x : ℕ} → Fits w8 x → bytes_of 1 x ≡ x ∷ []
 unfolding bytes_of
 byte-number {x} small = let e : x % 256 ≡ x = omega arith in rw e
-
-pub fields-length : (ws xs : List ℕ) → length (fields_of ws xs) ≡ sum ws
-unfolding fields_of
-fields-length [] xs = refl
-fields-length (w ∷ ws) xs = simp length-append (omega (arith, length-bytes_of w (get_or xs 0 0), fields-length ws (drop 1 xs)))
-
--- the fields of ws before the i-th, laid from o on, end at p
-pub record Ends (ws : List ℕ) (o p i : ℕ) : Type 0 where
-  pub is : p + sum (drop i ws) ≡ o + sum ws
-
-pub ends_none : {ws : List ℕ} {o : ℕ} → Ends ws o o 0
-ends_none = record { is = refl }
-
-module _ {ws : List ℕ} {o p i : ℕ} (e : Ends ws o p i) where
-  module _ {w : ℕ} (h : i < length ws) (q : w ≡ get_or ws i 0) where
-    next : sum (drop i ws) ≡ w + sum (drop (i + 1) ws)
-    next = rw (add-one, drop-cons ws i 0 h, q)
-
-    pub ends_more : Ends ws o (p + w) (i + 1)
-    ends_more = record { is = omega (arith, next, e.is) }
-
-    pub ends_inside : p + w ≤ o + sum ws
-    ends_inside = omega (arith, next, e.is)
-
-  pub ends_all : length ws ≤ i → p ≡ o + sum ws
-  ends_all h = omega (arith, ap sum (drop_of_length-le ws h), e.is)
-
-pub fields-next : (ws xs : List ℕ) (i : ℕ) → i < length ws
-    → fields_of (drop i ws) (drop i xs) ≡ bytes_of (get_or ws i 0) (get_or xs i 0) ++ fields_of (drop (i + 1) ws) (drop (i + 1) xs)
-unfolding fields_of
-fields-next ws xs i h = rw (drop-cons ws i 0 h, fields_of, get_or-drop i xs 0 0, drop-drop 1 i xs, add-zero i, add-one i)
 
 -- ---- from bytes
 

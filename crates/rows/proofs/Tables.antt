@@ -2,11 +2,13 @@
 -- Assumes nothing.
 use mathlib.Core.Path.{◌≡◌, refl, sym, ◌∙◌}
 use mathlib.Core.List.{List, [], ◌∷◌, append-nil}
-use Prim.Native.Nat.{ℕ, ◌+◌, ◌*◌, ◌≤◌, ◌<◌}
+use Prim.Native.Nat.{ℕ, zero, suc, ◌+◌, ◌*◌, ◌≤◌, ◌<◌}
+use native.Mathlib.Numerals.{add-one}
 use native.Mathlib.Omega.{arith}
-use lib.ListN.{length, get_or, drop_of_length-le}
+use lib.ListN.{length, replicate, get_or, drop_of_length-le}
 use lib.Seq.{ext_get_or}
-use Rattle.rows.specs.Bytes.{splice, table, tab, zeros}
+use Rattle.std.proofs.lemmas.List.{replicate_more}
+use Rattle.rows.specs.Bytes.{splice, run, table, tab, zeros}
 use Rattle.rows.proofs.Laws.{length_run, Holds, holds_self, holds_same, holds-run, tab_ext, tab_get_d}
 
 pub splice-whole : (b v : List ℕ) → length v ≡ length b → splice b 0 v ≡ v
@@ -18,6 +20,11 @@ splice-whole b v e =
 pub length-zeros : (n : ℕ) → length (zeros n) ≡ n
 unfolding zeros
 length-zeros n = let e = length_run 1 n (λ k. 0 ∷ []) (λ k. refl) in omega arith
+
+pub zeros-replicate : (n : ℕ) → replicate n 0 ≡ zeros n
+unfolding zeros run
+zeros-replicate zero = refl
+zeros-replicate (suc n) = rw (← zeros-replicate n, replicate_more {X = ℕ} n 0, add-one n)
 
 module _ {A : Type 0} (enc : A → List ℕ) (d : A) (w n : ℕ) (wide : (x : A) → length (enc x) ≡ w) where
   pub table-length : (xs : List A) → length (table enc d n xs) ≡ n * w

@@ -1,6 +1,8 @@
 -- Bytes in a buffer: a piece written over it, numbers high byte first, and pieces one after another. `get_or l k 0` is the byte of l at k, and
 -- 0 past its end. Assumes nothing.
 use Rattle.std.specs.Prelude.{ℕ, zero, suc, ◌+◌, ◌*◌, ◌/◌, ◌%◌, cond, List, [], ◌∷◌, ◌++◌, leb, length, get_or, take, drop}
+use Rattle.rows.specs.declared.Field.{Field}
+use Rattle.rows.specs.declared.Field.TheVariants.{Flag, Byte, U16, U32, Zeros}
 
 -- l, with b written over it from index o
 unfoldable pub splice : List ℕ → ℕ → List ℕ → List ℕ
@@ -14,11 +16,6 @@ placed l o b = cond (leb (o + length b) (length l)) (splice l o b) l
 unfoldable pub bytes_of : ℕ → ℕ → List ℕ
 bytes_of zero x = []
 bytes_of (suc n) x = bytes_of n (x / 256) ++ (x % 256 ∷ [])
-
--- numbers one after another, each in as many bytes as its width says; a number that xs lacks is 0
-unfoldable pub fields_of : List ℕ → List ℕ → List ℕ
-fields_of [] xs = []
-fields_of (w ∷ ws) xs = bytes_of w (get_or xs 0 0) ++ fields_of ws (drop 1 xs)
 
 -- the number in the n bytes of l from o on, "high byte first"
 unfoldable pub number_at : ℕ → List ℕ → ℕ → ℕ
@@ -63,3 +60,16 @@ table enc d n xs = run n (λ k. enc (get_or xs k d))
 -- n zero bytes: "unused room is zero"
 unfoldable pub zeros : ℕ → List ℕ
 zeros n = run n (λ k. 0 ∷ [])
+
+-- one field of a row; unused room is zero
+unfoldable pub field_bytes : Field → List ℕ
+field_bytes (Flag x) = cond x 1 0 ∷ []
+field_bytes (Byte x) = x ∷ []
+field_bytes (U16 x) = be16 x
+field_bytes (U32 x) = be32 x
+field_bytes (Zeros n) = zeros n
+
+-- a row: fields one after another
+unfoldable pub fields_of : List Field → List ℕ
+fields_of [] = []
+fields_of (f ∷ fs) = field_bytes f ++ fields_of fs

@@ -1,15 +1,13 @@
 -- `rows::read_u32` meets its contract. Assumes nothing.
-use mathlib.Core.Path.{sym}
 use Prim.Native.Nat.{◌+◌}
 use native.Mathlib.Omega.{arith}
-use Rattle.rows.proofs.Numbers.{number_past, u32_halves}
+use lib.ListN.{length}
+use Rattle.rows.specs.Bytes.{number_at}
+use Rattle.rows.proofs.Numbers.{capped, number_past, u32_halves}
 use Rattle.rows.proofs.read_u32.Goals as goal
 
-pub returns-then-s-at : goal.returns-then-s-at
-returns-then-s-at c = sym (number_past 4 _ _ c.if-s-at.true)
-
-pub returns-then-s-at-le2 : goal.returns-then-s-at-le2
-returns-then-s-at-le2 c = omega (arith, u32_halves c.args.s.now c.args.at, number_past 2 c.args.s.now (c.args.at + 2) (omega arith))
-
 pub returns : goal.returns
-returns c = omega (arith, u32_halves c.args.s.now c.args.at)
+returns c =
+    let s = c.args.s.now in
+    let low = capped (number_at 2 s) (length s) (c.args.at + 2) _ _ (number_past 2 s) c.saturating_add.ensures (omega arith) in
+    omega (arith, u32_halves s c.args.at)
