@@ -1,5 +1,5 @@
 -- Laws of the rules' decimal digits and lines of numbers. Assumes nothing.
-use mathlib.Core.Path.{◌≡◌, refl, sym, ap}
+use mathlib.Core.Path.{◌≡◌, refl, ap}
 use mathlib.Core.List.{List, [], ◌∷◌, ◌++◌}
 use Prim.Native.Nat.{ℕ, zero, suc, ◌+◌, ◌*◌, ◌^◌, ◌/◌, ◌%◌, ◌≤◌, ◌<◌}
 use native.Mathlib.Nat.{pow-suc}
@@ -26,34 +26,26 @@ pub decimal_more : (n : ℕ) → 10 ≤ n → n < 4294967296 → decimal n ≡ d
 unfolding digits
 decimal_more n h small = rw (le-ltb n 10 h, enough 8 (n / 10) (omega arith))
 
--- ---- what of a line comes after its first number, and from the i-th on
+-- ---- what of a line comes after its first number
 
 unfoldable pub tail : List ℕ → List ℕ
 tail [] = 10 ∷ []
 tail (n ∷ ns) = 32 ∷ (decimal n ++ tail ns)
-
-line_tail : (n : ℕ) (ns : List ℕ) → line (n ∷ ns) ≡ decimal n ++ tail ns
-unfolding line tail
-line_tail n [] = refl
-line_tail n (m ∷ ns) = ap (λ (r : List ℕ). decimal n ++ (32 ∷ r)) (line_tail m ns)
-
-unfoldable pub tail_from : ℕ → List ℕ → List ℕ
-tail_from i ns = tail (drop i ns)
 
 pub line-none : (ns : List ℕ) → length ns ≡ 0 → line ns ≡ 10 ∷ []
 unfolding line
 line-none [] h = refl
 line-none (n ∷ ns) h = absurd (omega arith)
 
-pub line_first : (ns : List ℕ) → (length ns ≡ 0 → ⊥) → decimal (get_or ns 0 0) ++ tail_from 1 ns ≡ line ns
-unfolding tail_from
-line_first [] h = absurd (h refl)
-line_first (n ∷ ns) h = sym (line_tail n ns)
+pub line_tail : (n : ℕ) (ns : List ℕ) → line (n ∷ ns) ≡ decimal n ++ tail ns
+unfolding line tail
+line_tail n [] = refl
+line_tail n (m ∷ ns) = ap (λ (r : List ℕ). decimal n ++ (32 ∷ r)) (line_tail m ns)
 
-pub tail_next : (ns : List ℕ) (i : ℕ) → i < length ns → tail_from i ns ≡ (32 ∷ []) ++ (decimal (get_or ns i 0) ++ tail_from (i + 1) ns)
-unfolding tail_from tail
+pub tail_next : (ns : List ℕ) (i : ℕ) → i < length ns → tail (drop i ns) ≡ (32 ∷ []) ++ (decimal (get_or ns i 0) ++ tail (drop (i + 1) ns))
+unfolding tail
 tail_next ns i h = rw (drop-cons ns i 0 h, add-one i)
 
-pub tail_end : (ns : List ℕ) (i : ℕ) → length ns ≤ i → tail_from i ns ≡ (10 ∷ []) ++ []
-unfolding tail_from tail
+pub tail_end : (ns : List ℕ) (i : ℕ) → length ns ≤ i → tail (drop i ns) ≡ (10 ∷ []) ++ []
+unfolding tail
 tail_end ns i h = rw (drop_of_length-le ns h)

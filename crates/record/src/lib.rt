@@ -6,24 +6,12 @@ ghost use Rattle.std.specs.Prelude.{◌≡◌, [], ◌∷◌};
 ghost use Rattle.rules.specs.Runs.{decimal, line, start_of, end_of, bad_of};
 ghost use Rattle.record.specs.Lines.{laid, past, step_of};
 
-// The largest position: no buffer reaches that far.
-const FAR: usize = 18446744073709551615;
-
-const ZERO: u32 = 48;
-
-const BLANK: u8 = 32;
-
-const NEWLINE: u8 = 10;
-
 pub fn put(out: &mut [u8], at: usize, x: u8) -> usize
     ensures position { result ≡ past at (x ∷ []) }
     ensures bytes { out.new ≡ laid out.old at (x ∷ []) }
 {
     rows::put_byte(out, at, x);
-    if at == FAR {
-        return at;
-    }
-    at + 1
+    at.saturating_add(1)
 }
 
 // In decimal; the digits before the last are those of a tenth.
@@ -32,10 +20,10 @@ pub fn put_number(out: &mut [u8], at: usize, n: u32) -> usize
     ensures bytes { out.new ≡ laid out.old at (decimal n) }
 {
     if n < 10 {
-        return put(out, at, (ZERO + n) as u8);
+        return put(out, at, b'0' + n as u8);
     }
     let last = put_number(out, at, n / 10);
-    put(out, last, (ZERO + n % 10) as u8)
+    put(out, last, b'0' + (n % 10) as u8)
 }
 
 // A line of numbers, with single blanks between them.
@@ -43,17 +31,15 @@ pub fn put_line(out: &mut [u8], at: usize, numbers: &[u32]) -> usize
     ensures position { result ≡ past at (line numbers.now) }
     ensures bytes { out.new ≡ laid out.old at (line numbers.now) }
 {
-    if numbers.len() == 0 {
-        return put(out, at, NEWLINE);
+    let Some((first, rest)) = numbers.split_first() else {
+        return put(out, at, b'\n');
+    };
+    let mut p = put_number(out, at, *first);
+    for n in rest {
+        let next = put(out, p, b' ');
+        p = put_number(out, next, *n);
     }
-    let mut p = put_number(out, at, numbers[0]);
-    let mut i = 1;
-    while i < numbers.len() {
-        let next = put(out, p, BLANK);
-        p = put_number(out, next, numbers[i]);
-        i += 1;
-    }
-    put(out, p, NEWLINE)
+    put(out, p, b'\n')
 }
 
 pub fn put_word(out: &mut [u8], at: usize, word: &[u8]) -> usize
@@ -61,10 +47,8 @@ pub fn put_word(out: &mut [u8], at: usize, word: &[u8]) -> usize
     ensures bytes { out.new ≡ laid out.old at word.now }
 {
     let mut p = at;
-    let mut i = 0;
-    while i < word.len() {
-        p = put(out, p, word[i]);
-        i += 1;
+    for x in word {
+        p = put(out, p, *x);
     }
     p
 }
@@ -74,8 +58,7 @@ pub fn put_start(out: &mut [u8], mask: u8) -> usize
     ensures bytes { out.new ≡ laid out.old 0 (start_of mask) }
 {
     let at = put_word(out, 0, b"start ");
-    let numbers = [mask as u32];
-    put_line(out, at, &numbers)
+    put_line(out, at, &[mask as u32])
 }
 
 pub fn put_step(
@@ -116,8 +99,7 @@ pub fn put_end(
     ensures bytes { out.new ≡ laid out.old at (end_of sent delivered dropped waiting) }
 {
     let next = put_word(out, at, b"end ");
-    let numbers = [sent, delivered, dropped, waiting];
-    put_line(out, next, &numbers)
+    put_line(out, next, &[sent, delivered, dropped, waiting])
 }
 
 pub fn put_bad(out: &mut [u8]) -> usize
@@ -125,6 +107,5 @@ pub fn put_bad(out: &mut [u8]) -> usize
     ensures bytes { out.new ≡ laid out.old 0 bad_of }
 {
     let at = put_word(out, 0, b"bad ");
-    let numbers = [rules::BAD_SHEET as u32];
-    put_line(out, at, &numbers)
+    put_line(out, at, &[rules::BAD_SHEET as u32])
 }

@@ -4,8 +4,5 @@ use native.Mathlib.Omega.{arith}
 use Rattle.record.proofs.Laying.{laid-byte}
 use Rattle.record.proofs.put.Goals as goal
 
-pub returns-then-at-eq-FAR : goal.returns-then-at-eq-FAR
-returns-then-at-eq-FAR c = record { position = omega arith; bytes = c.put_byte.ensures ∙ laid-byte _ _ _ }
-
 pub returns : goal.returns
 returns c = record { position = omega arith; bytes = c.put_byte.ensures ∙ laid-byte _ _ _ }
