@@ -13,7 +13,7 @@ ghost use Rattle.state.specs.Meaning.{notes_of, generator_of, transfer_of, relay
 ghost use Rattle.image.specs.Parts.{notes_bytes, head_at, message_row};
 ghost use Rattle.image.specs.Parts.{sequence_row_at, notes_row_at, generator_row_at, transfer_row_at, message_row_at};
 
-use layout::{BYTE, U16, U32};
+use rows::Field;
 use rules::{Desk, Phase};
 use stamps::{Pair, Stamp};
 use state::{Body, Generator, Head, Message, Notes, Transfer};
@@ -22,12 +22,11 @@ use views::Sequence;
 pub fn sequence_at(s: &[u8], at: usize) -> Sequence
     ensures { result ≡ sequence_row_at s.now at }
 {
-    let a = rows::smaller(at, s.len());
+    let a = at.min(s.len());
     let len = rows::byte_at(s, a + layout::SEQUENCE_COUNT) as usize;
-    let n = rows::smaller(len, rules::VIEWS);
-    let mut views = [0u16; rules::VIEWS];
-    for i in 0..n {
-        views[i] = rows::read_u16(s, a + layout::U16_WIDTH * i);
+    let mut views = [0; rules::VIEWS];
+    for (i, view) in views[..len.min(rules::VIEWS)].iter_mut().enumerate() {
+        *view = rows::read_u16(s, a + layout::U16_WIDTH * i);
     }
     Sequence { views, len }
 }
@@ -53,7 +52,7 @@ pub fn put_sequence(s: &mut [u8], at: usize, q: Sequence)
 pub fn pair_at(s: &[u8], at: usize) -> Pair
     ensures { result ≡ pair_at s.now at }
 {
-    let a = rows::smaller(at, s.len());
+    let a = at.min(s.len());
     let count = rows::read_u16(s, a);
     let desk = rows::byte_at(s, a + layout::PAIR_DESK);
     let value = rows::read_u32(s, a + layout::PAIR_VALUE);
@@ -66,7 +65,7 @@ pub fn pair_at(s: &[u8], at: usize) -> Pair
 pub fn head_at(s: &[u8], at: usize) -> Head
     ensures { result ≡ head_at s.now at }
 {
-    let a = rows::smaller(at, s.len());
+    let a = at.min(s.len());
     let alive = rows::byte_at(s, a) == 1;
     let entered = rows::byte_at(s, a + layout::HEAD_ENTERED) == 1;
     let active = rows::byte_at(s, a + layout::HEAD_ACTIVE) == 1;
@@ -88,40 +87,28 @@ pub fn head_at(s: &[u8], at: usize) -> Head
 pub fn put_head(s: &mut [u8], at: usize, h: Head)
     ensures { s.new ≡ placed s.old at (head_bytes (relay_of h [] [])) }
 {
-    let holds = h.holds;
-    let widths = [
-        BYTE,
-        BYTE,
-        BYTE,
-        U16,
-        U16,
-        U16,
-        U16,
-        BYTE,
-        U32,
-        layout::HEAD_REST,
+    let row = [
+        Field::Flag(h.alive),
+        Field::Flag(h.entered),
+        Field::Flag(h.active),
+        Field::U16(h.view),
+        Field::U16(h.known),
+        Field::U16(h.pending),
+        Field::U16(h.holds.stamp.count),
+        Field::Byte(h.holds.stamp.desk),
+        Field::U32(h.holds.value),
+        Field::Zeros(layout::HEAD_REST),
     ];
-    let xs = [
-        h.alive as u32,
-        h.entered as u32,
-        h.active as u32,
-        h.view as u32,
-        h.known as u32,
-        h.pending as u32,
-        holds.stamp.count as u32,
-        holds.stamp.desk as u32,
-        holds.value,
-    ];
-    rows::put_fields(s, at, &widths, &xs);
+    rows::put_fields(s, at, &row);
 }
 
 pub fn notes_at(s: &[u8], at: usize) -> Notes
     ensures { result ≡ notes_row_at s.now at }
 {
-    let a = rows::smaller(at, s.len());
+    let a = at.min(s.len());
     let mut of = [views::empty(); rules::RELAYS];
-    for i in 0..rules::RELAYS {
-        of[i] = sequence_at(s, a + i * layout::SEQUENCE_WIDTH);
+    for (i, q) in of.iter_mut().enumerate() {
+        *q = sequence_at(s, a + i * layout::SEQUENCE_WIDTH);
     }
     Notes { of }
 }
@@ -132,17 +119,15 @@ pub fn put_notes(s: &mut [u8], at: usize, n: Notes)
     if !rows::has_room(s.len(), at, layout::NOTES_WIDTH) {
         return;
     }
-    let of = n.of;
-    for i in 0..rules::RELAYS {
-        let q = of[i];
-        put_sequence(s, at + i * layout::SEQUENCE_WIDTH, q);
+    for (i, q) in n.of.iter().enumerate() {
+        put_sequence(s, at + i * layout::SEQUENCE_WIDTH, *q);
     }
 }
 
 pub fn generator_at(s: &[u8], at: usize) -> Generator
     ensures { result ≡ generator_row_at s.now at }
 {
-    let a = rows::smaller(at, s.len());
+    let a = at.min(s.len());
     let view = rows::read_u16(s, a);
     let own = sequence_at(s, a + layout::GENERATOR_OWN);
     let converged = sequence_at(s, a + layout::GENERATOR_CONVERGED);
@@ -163,17 +148,12 @@ fn put_generator_fields(s: &mut [u8], at: usize, g: Generator)
     requires { at + generator_width ≤ length s.old }
     ensures { s.new ≡ placed s.old at (generator_bytes (generator_of g)) }
 {
-    let own = g.own;
-    let converged = g.converged;
-    let raised = g.raised;
-    let proposals = g.proposals;
-    let convergences = g.convergences;
     rows::put_u16(s, at, g.view);
-    put_sequence(s, at + layout::GENERATOR_OWN, own);
-    put_sequence(s, at + layout::GENERATOR_CONVERGED, converged);
-    put_sequence(s, at + layout::GENERATOR_RAISED, raised);
-    put_notes(s, at + layout::GENERATOR_PROPOSALS, proposals);
-    put_notes(s, at + layout::GENERATOR_CONVERGENCES, convergences);
+    put_sequence(s, at + layout::GENERATOR_OWN, g.own);
+    put_sequence(s, at + layout::GENERATOR_CONVERGED, g.converged);
+    put_sequence(s, at + layout::GENERATOR_RAISED, g.raised);
+    put_notes(s, at + layout::GENERATOR_PROPOSALS, g.proposals);
+    put_notes(s, at + layout::GENERATOR_CONVERGENCES, g.convergences);
     rows::clear(s, at + layout::GENERATOR_ZEROS, layout::GENERATOR_REST);
 }
 
@@ -189,7 +169,7 @@ pub fn put_generator(s: &mut [u8], at: usize, g: Generator)
 pub fn transfer_at(s: &[u8], at: usize) -> Transfer
     ensures { result ≡ transfer_row_at s.now at }
 {
-    let a = rows::smaller(at, s.len());
+    let a = at.min(s.len());
     let old = rows::read_u16(s, a);
     let new = rows::read_u16(s, a + layout::TRANSFER_NEW);
     let sequence = sequence_at(s, a + layout::TRANSFER_SEQUENCE);
@@ -209,24 +189,21 @@ pub fn transfer_at(s: &[u8], at: usize) -> Transfer
 pub fn put_transfer(s: &mut [u8], at: usize, t: Transfer)
     ensures { s.new ≡ placed s.old at (transfer_bytes (transfer_of t)) }
 {
-    let sequence = t.sequence;
-    let best = t.best;
-    let widths = [U16, U16];
-    let xs = [t.old as u32, t.new as u32];
-    let last = [BYTE, U16, BYTE, U32, U16, layout::TRANSFER_REST];
-    let ys = [
-        t.senders as u32,
-        best.stamp.count as u32,
-        best.stamp.desk as u32,
-        best.value,
-        t.gathered as u32,
-    ];
     if !rows::has_room(s.len(), at, layout::TRANSFER_WIDTH) {
         return;
     }
-    rows::put_fields(s, at, &widths, &xs);
-    put_sequence(s, at + layout::TRANSFER_SEQUENCE, sequence);
-    rows::put_fields(s, at + layout::TRANSFER_SENDERS, &last, &ys);
+    let first = [Field::U16(t.old), Field::U16(t.new)];
+    let last = [
+        Field::Byte(t.senders),
+        Field::U16(t.best.stamp.count),
+        Field::Byte(t.best.stamp.desk),
+        Field::U32(t.best.value),
+        Field::U16(t.gathered),
+        Field::Zeros(layout::TRANSFER_REST),
+    ];
+    rows::put_fields(s, at, &first);
+    put_sequence(s, at + layout::TRANSFER_SEQUENCE, t.sequence);
+    rows::put_fields(s, at + layout::TRANSFER_SENDERS, &last);
 }
 
 fn phase_number(p: Phase) -> u8
@@ -244,25 +221,19 @@ fn phase_number(p: Phase) -> u8
 fn phase_of(n: u8) -> Phase
     ensures { result ≡ phase_of n }
 {
-    if n == 1 {
-        return Phase::Read1;
+    match n {
+        1 => Phase::Read1,
+        2 => Phase::Read2,
+        3 => Phase::Write1,
+        4 => Phase::Write2,
+        _ => Phase::Idle,
     }
-    if n == 2 {
-        return Phase::Read2;
-    }
-    if n == 3 {
-        return Phase::Write1;
-    }
-    if n == 4 {
-        return Phase::Write2;
-    }
-    Phase::Idle
 }
 
 pub fn desk_at(s: &[u8], at: usize) -> Desk
     ensures { result ≡ desk_at s.now at }
 {
-    let a = rows::smaller(at, s.len());
+    let a = at.min(s.len());
     let alive = rows::byte_at(s, a) == 1;
     let phase = phase_of(rows::byte_at(s, a + layout::DESK_PHASE));
     let view = rows::read_u16(s, a + layout::DESK_VIEW);
@@ -286,46 +257,28 @@ pub fn desk_at(s: &[u8], at: usize) -> Desk
 pub fn put_desk(s: &mut [u8], at: usize, d: Desk)
     ensures { s.new ≡ placed s.old at (desk_bytes d) }
 {
-    let phase = d.phase;
-    let number = phase_number(phase);
-    let holds = d.holds;
-    let best = d.best;
-    let widths = [
-        BYTE,
-        BYTE,
-        U16,
-        U16,
-        U16,
-        BYTE,
-        U32,
-        BYTE,
-        U16,
-        BYTE,
-        U32,
-        BYTE,
-        layout::DESK_REST,
+    let row = [
+        Field::Flag(d.alive),
+        Field::Byte(phase_number(d.phase)),
+        Field::U16(d.view),
+        Field::U16(d.tries),
+        Field::U16(d.holds.stamp.count),
+        Field::Byte(d.holds.stamp.desk),
+        Field::U32(d.holds.value),
+        Field::Byte(d.replied),
+        Field::U16(d.best.stamp.count),
+        Field::Byte(d.best.stamp.desk),
+        Field::U32(d.best.value),
+        Field::Flag(d.agreed),
+        Field::Zeros(layout::DESK_REST),
     ];
-    let xs = [
-        d.alive as u32,
-        number as u32,
-        d.view as u32,
-        d.tries as u32,
-        holds.stamp.count as u32,
-        holds.stamp.desk as u32,
-        holds.value,
-        d.replied as u32,
-        best.stamp.count as u32,
-        best.stamp.desk as u32,
-        best.value,
-        d.agreed as u32,
-    ];
-    rows::put_fields(s, at, &widths, &xs);
+    rows::put_fields(s, at, &row);
 }
 
 pub fn message_at(s: &[u8], at: usize) -> Message
     ensures { result ≡ message_row_at s.now at }
 {
-    let a = rows::smaller(at, s.len());
+    let a = at.min(s.len());
     let kind = rows::byte_at(s, a);
     let from = rows::byte_at(s, a + layout::MESSAGE_FROM);
     let to = rows::byte_at(s, a + layout::MESSAGE_TO);
@@ -350,29 +303,26 @@ pub fn message_at(s: &[u8], at: usize) -> Message
 pub fn put_message(s: &mut [u8], at: usize, m: Message)
     ensures { s.new ≡ placed s.old at (row_bytes (message_row m)) }
 {
-    let b = m.body;
-    let sequence = b.sequence;
-    let pair = b.pair;
-    let widths = [BYTE, BYTE, BYTE, U16, U16, U16];
-    let xs = [
-        b.kind as u32,
-        m.from as u32,
-        m.to as u32,
-        b.first as u32,
-        b.second as u32,
-        b.tries as u32,
-    ];
-    let last = [U16, BYTE, U32, U16, layout::MESSAGE_REST];
-    let ys = [
-        pair.stamp.count as u32,
-        pair.stamp.desk as u32,
-        pair.value,
-        b.updates as u32,
-    ];
     if !rows::has_room(s.len(), at, layout::MESSAGE_WIDTH) {
         return;
     }
-    rows::put_fields(s, at, &widths, &xs);
-    put_sequence(s, at + layout::MESSAGE_SEQUENCE, sequence);
-    rows::put_fields(s, at + layout::MESSAGE_PAIR, &last, &ys);
+    let b = m.body;
+    let first = [
+        Field::Byte(b.kind),
+        Field::Byte(m.from),
+        Field::Byte(m.to),
+        Field::U16(b.first),
+        Field::U16(b.second),
+        Field::U16(b.tries),
+    ];
+    let last = [
+        Field::U16(b.pair.stamp.count),
+        Field::Byte(b.pair.stamp.desk),
+        Field::U32(b.pair.value),
+        Field::U16(b.updates),
+        Field::Zeros(layout::MESSAGE_REST),
+    ];
+    rows::put_fields(s, at, &first);
+    put_sequence(s, at + layout::MESSAGE_SEQUENCE, b.sequence);
+    rows::put_fields(s, at + layout::MESSAGE_PAIR, &last);
 }

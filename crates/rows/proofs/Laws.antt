@@ -87,12 +87,9 @@ module _ (l a b : List ℕ) (o : ℕ) (h : o + (length a + length b) ≤ length 
   pub placed_more : placed (placed l o a) (o + length a) b ≡ placed l o (a ++ b)
   placed_more = placed_twice l a b o (o + length a) (omega arith) (omega arith) ∙ splice_more l a b o (omega arith) ∙ whole
 
--- what the code's test of the room says: `!has_room(..)` is false, or true
+-- what the code's test of the room says, where `!has_room(..)` is false
 pub room : {r : Bool} {m n : ℕ} → r ≡ leb m n → not r ≡ false → m ≤ n
 room {r} {m} {n} e t = leb-true m n (sym e ∙ not-false r t)
-
-pub no_room : {r : Bool} {n : ℕ} (l b : List ℕ) (o : ℕ) → length b ≡ n → r ≡ leb (o + n) (length l) → not r ≡ true → l ≡ placed l o b
-no_room {r} {n} l b o w e t = sym (placed_not l b o (omega (arith, leb-false (o + n) (length l) (sym e ∙ not-true r t))))
 
 -- a store is a piece of one byte, in the list and past its end
 pub set-placed : (l : List ℕ) (o x : ℕ) → set l o x ≡ placed l o (x ∷ [])

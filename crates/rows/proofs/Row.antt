@@ -8,7 +8,9 @@ use lib.ListN.{length, get_or, drop, length-append, drop_of_length-le}
 use lib.Seq.{drop-cons}
 use Rattle.rows.specs.Bytes.{bytes_of, field_bytes, fields_of}
 use Rattle.rows.specs.declared.Field.{Field}
-use Rattle.rows.specs.declared.Field.TheVariants.{Byte}
+use Rattle.rows.specs.declared.Field.TheVariants.{Flag, Byte, U16, U32, Zeros}
+use Rattle.rows.proofs.Numbers.{length-bytes_of}
+use Rattle.rows.proofs.Tables.{length-zeros}
 
 pub fields-next : (fs : List Field) (i : ℕ) (d : Field) → i < length fs → fields_of (drop i fs) ≡ field_bytes (get_or fs i d) ++ fields_of (drop (i + 1) fs)
 unfolding fields_of
@@ -35,6 +37,32 @@ module _ {fs : List Field} {o p i : ℕ} (e : Ends fs o p i) where
   pub ends_all : length fs ≤ i → p ≡ o + length (fields_of fs)
   unfolding fields_of
   ends_all h = omega (arith, ap (λ (l : List Field). length (fields_of l)) (drop_of_length-le fs h), e.is)
+
+-- ---- how long a row is, by its fields alone
+
+abbrev pub width : Field → ℕ
+width (Flag x) = 1
+width (Byte x) = 1
+width (U16 x) = 2
+width (U32 x) = 4
+width (Zeros n) = n
+
+abbrev pub row_width : List Field → ℕ
+row_width [] = 0
+row_width (f ∷ fs) = width f + row_width fs
+
+field-length : (f : Field) → length (field_bytes f) ≡ width f
+unfolding field_bytes
+field-length (Flag x) = refl
+field-length (Byte x) = refl
+field-length (U16 x) = length-bytes_of 2 x
+field-length (U32 x) = length-bytes_of 4 x
+field-length (Zeros n) = length-zeros n
+
+pub fields-length : (fs : List Field) → length (fields_of fs) ≡ row_width fs
+unfolding fields_of
+fields-length [] = refl
+fields-length (f ∷ fs) = simp length-append (omega (arith, field-length f, fields-length fs))
 
 -- ---- any number in any width is a list of fields, its bytes
 

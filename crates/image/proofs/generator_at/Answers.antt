@@ -5,4 +5,12 @@ use Rattle.image.proofs.generator_at.Goals as goal
 
 pub returns : goal.returns
 unfolding generator_row_at
-returns c = cc (generator_alike (alike_end c.args.s.now c.args.at _ c.smaller-a.ensures))
+returns c =
+    rw (
+      c.read_u16-view.ensures,
+      c.sequence_at-own.ensures,
+      c.sequence_at-converged.ensures,
+      c.sequence_at-raised.ensures,
+      c.notes_at-proposals.ensures,
+      c.notes_at-convergences.ensures,
+    ) (generator_alike (alike_end c.args.s.now c.args.at _ c.min-a.ensures))

@@ -19,4 +19,4 @@ loop-i-preserved c = fill_more c.loop-i.invariant c.loop-i-test.true c.sequence_
 
 pub returns : goal.returns
 unfolding notes_row_at
-returns c = ap notes (fill_all c.loop-i.invariant c.loop-i-test.false) ∙ notes_alike (alike_end c.args.s.now c.args.at _ c.smaller-a.ensures)
+returns c = ap notes (fill_all c.loop-i.invariant c.loop-i-test.false) ∙ notes_alike (alike_end c.args.s.now c.args.at _ c.min-a.ensures)

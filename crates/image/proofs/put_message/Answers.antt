@@ -1,35 +1,44 @@
 -- `image::put_message` meets its contract. Assumes nothing.
-use mathlib.Core.Path.{refl}
+use mathlib.Core.Path.{◌≡◌, sym, ap, ◌∙◌}
+use mathlib.Core.List.{[], ◌∷◌, ◌++◌, append_assoc, append-nil}
 use Prim.Native.Nat.{◌+◌, ◌≤◌}
 use native.Mathlib.Omega.{arith}
 use lib.ListN.{length}
-use Rattle.rows.proofs.Laws.{room, no_room}
-use Rattle.rows.proofs.Numbers.{byte-number}
-use Rattle.layout.specs.Layout.{message_width}
-use Rattle.layout.specs.Image.{row_bytes}
+use borrow.Author.Tests.{leb-true, leb-false}
+use Rattle.rows.specs.Bytes.{placed, field_bytes, fields_of, cat}
+use Rattle.rows.specs.declared.Field.TheVariants.{Byte, U16, U32, Zeros}
+use Rattle.rows.proofs.Laws.{placed_not}
+use Rattle.layout.specs.Layout.{message_width, message_rest}
+use Rattle.layout.specs.Image.{sequence_bytes, pair_bytes, row_bytes}
 use Rattle.layout.proofs.Widths.{length-row}
 use Rattle.image.specs.Parts.{message_row}
-use Rattle.image.proofs.Fields.{none, blank, piece, pair, laid_around, around}
+use Rattle.views.specs.Row.{views_of}
+use Rattle.state.specs.declared.Message.{Message}
+use Rattle.image.proofs.Fields.{around}
 use Rattle.image.proofs.put_message.Goals as goal
 
+row_is : (m : Message)
+    → (fields_of (Byte m.body.kind ∷ Byte m.from ∷ Byte m.to ∷ U16 m.body.first ∷ U16 m.body.second ∷ U16 m.body.tries ∷ [])
+    ++ sequence_bytes (views_of m.body.sequence))
+    ++ fields_of (U16 m.body.pair.stamp.count ∷ Byte m.body.pair.stamp.desk ∷ U32 m.body.pair.value ∷ U16 m.body.updates ∷ Zeros message_rest ∷ [])
+    ≡ row_bytes (message_row m)
+unfolding row_bytes message_row pair_bytes cat fields_of field_bytes
+row_is m = simp (append_assoc, append-nil)
+
 pub returns-then-not-has_room : goal.returns-then-not-has_room
-returns-then-not-has_room c = no_room _ _ _ (length-row _) c.has_room.ensures c.if-not-has_room.true-raw
+returns-then-not-has_room c =
+    let past = leb-false _ _ (sym c.has_room.ensures ∙ c.if-not-has_room.true) in
+    sym (placed_not _ _ _ (omega (arith, length-row (message_row c.args.m))))
 
 pub overflow_add-at : goal.overflow_add-at
 overflow_add-at c =
-    let space : c.args.at + message_width ≤ length c.args.s.now = room c.has_room.ensures c.if-not-has_room.false-raw in
-    omega (arith, space, c.well_formed)
+    let space : c.args.at + message_width ≤ length c.args.s.now = leb-true _ _ (sym c.has_room.ensures ∙ c.if-not-has_room.false) in
+    omega arith
 
 pub overflow_add-at-2 : goal.overflow_add-at-2
 overflow_add-at-2 c =
-    let space : c.args.at + message_width ≤ length c.args.s.now = room c.has_room.ensures c.if-not-has_room.false-raw in
-    omega (arith, space, c.well_formed)
+    let space : c.args.at + message_width ≤ length c.args.s.now = leb-true _ _ (sym c.has_room.ensures ∙ c.if-not-has_room.false) in
+    omega arith
 
 pub returns : goal.returns
-unfolding row_bytes message_row
-returns c =
-    let space : c.args.at + message_width ≤ length c.args.s.now = room c.has_room.ensures c.if-not-has_room.false-raw in
-    laid_around _ _ _ (around _ _ _ _ _ _ _ _ _ _ _ _ refl refl space c.put_fields.ensures c.put_sequence.ensures c.put_fields-2.ensures)
-    (piece (byte-number c.struct_known-9-1.given.0)
-    (piece (byte-number c.struct_known-3-1.given.0) (piece (byte-number c.struct_known-3-1.given.1.0) (piece refl (piece refl (piece refl none))))))
-    (pair _ c.struct_known-9-1.given.1.1.1.1.1.0.0.1.0 (piece refl blank))
+returns c = around _ _ _ _ _ c.put_fields.ensures c.put_sequence.ensures c.put_fields-2.ensures (leb-true _ _ (sym c.has_room.ensures ∙ c.if-not-has_room.false)) ∙ ap (placed _ _) (row_is c.args.m)

@@ -1,6 +1,5 @@
 -- `image::put_notes` meets its contract: the sequences before i are written. Assumes nothing.
 use mathlib.Core.List.{[], map}
-use Prim.Native.Nat.{◌-◌}
 use lib.ListN.{get_or}
 use Rattle.rows.proofs.Laws.{Wrote}
 use Rattle.views.specs.Row.{views_of}
@@ -10,7 +9,4 @@ use Rattle.layout.specs.Image.{sequence_bytes}
 use Rattle.image.proofs.put_notes.Given as goal
 
 abbrev pub invariant-loop-i : goal.invariant-loop-i
-invariant-loop-i l = Wrote sequence_width relay_count (λ k. sequence_bytes (get_or (map views_of l.of) k [])) l.initial.s l.at l.i l.s
-
-abbrev pub decreases-loop-i : goal.decreases-loop-i
-decreases-loop-i l = 8 - l.i
+invariant-loop-i l = Wrote sequence_width relay_count (λ k. sequence_bytes (get_or (map views_of l.q-items) k [])) l.initial.s l.at l.i l.s

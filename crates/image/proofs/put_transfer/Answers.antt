@@ -1,34 +1,43 @@
 -- `image::put_transfer` meets its contract. Assumes nothing.
-use mathlib.Core.Path.{refl}
+use mathlib.Core.Path.{◌≡◌, sym, ap, ◌∙◌}
+use mathlib.Core.List.{[], ◌∷◌, ◌++◌, append_assoc, append-nil}
 use Prim.Native.Nat.{◌+◌, ◌≤◌}
 use native.Mathlib.Omega.{arith}
 use lib.ListN.{length}
-use Rattle.rows.proofs.Laws.{room, no_room}
-use Rattle.rows.proofs.Numbers.{byte-number}
-use Rattle.layout.specs.Layout.{transfer_width}
-use Rattle.layout.specs.Image.{transfer_bytes}
+use borrow.Author.Tests.{leb-true, leb-false}
+use Rattle.rows.specs.Bytes.{placed, field_bytes, fields_of, cat}
+use Rattle.rows.specs.declared.Field.TheVariants.{Byte, U16, U32, Zeros}
+use Rattle.rows.proofs.Laws.{placed_not}
+use Rattle.layout.specs.Layout.{transfer_width, transfer_rest}
+use Rattle.layout.specs.Image.{sequence_bytes, pair_bytes, transfer_bytes}
 use Rattle.layout.proofs.Widths.{length_transfer}
 use Rattle.state.specs.Meaning.{transfer_of}
-use Rattle.image.proofs.Fields.{none, blank, piece, pair, laid_around, around}
+use Rattle.views.specs.Row.{views_of}
+use Rattle.state.specs.declared.Transfer.{Transfer}
+use Rattle.image.proofs.Fields.{around}
 use Rattle.image.proofs.put_transfer.Goals as goal
 
+row_is : (t : Transfer)
+    → (fields_of (U16 t.old ∷ U16 t.new ∷ []) ++ sequence_bytes (views_of t.sequence))
+    ++ fields_of (Byte t.senders ∷ U16 t.best.stamp.count ∷ Byte t.best.stamp.desk ∷ U32 t.best.value ∷ U16 t.gathered ∷ Zeros transfer_rest ∷ [])
+    ≡ transfer_bytes (transfer_of t)
+unfolding transfer_bytes transfer_of pair_bytes cat fields_of field_bytes
+row_is t = simp (append_assoc, append-nil)
+
 pub returns-then-not-has_room : goal.returns-then-not-has_room
-returns-then-not-has_room c = no_room _ _ _ (length_transfer _) c.has_room.ensures c.if-not-has_room.true-raw
+returns-then-not-has_room c =
+    let past = leb-false _ _ (sym c.has_room.ensures ∙ c.if-not-has_room.true) in
+    sym (placed_not _ _ _ (omega (arith, length_transfer (transfer_of c.args.t))))
 
 pub overflow_add-at : goal.overflow_add-at
 overflow_add-at c =
-    let space : c.args.at + transfer_width ≤ length c.args.s.now = room c.has_room.ensures c.if-not-has_room.false-raw in
-    omega (arith, space, c.well_formed)
+    let space : c.args.at + transfer_width ≤ length c.args.s.now = leb-true _ _ (sym c.has_room.ensures ∙ c.if-not-has_room.false) in
+    omega arith
 
 pub overflow_add-at-2 : goal.overflow_add-at-2
 overflow_add-at-2 c =
-    let space : c.args.at + transfer_width ≤ length c.args.s.now = room c.has_room.ensures c.if-not-has_room.false-raw in
-    omega (arith, space, c.well_formed)
+    let space : c.args.at + transfer_width ≤ length c.args.s.now = leb-true _ _ (sym c.has_room.ensures ∙ c.if-not-has_room.false) in
+    omega arith
 
 pub returns : goal.returns
-unfolding transfer_bytes transfer_of
-returns c =
-    let space : c.args.at + transfer_width ≤ length c.args.s.now = room c.has_room.ensures c.if-not-has_room.false-raw in
-    laid_around _ _ _ (around _ _ _ _ _ _ _ _ _ _ _ _ refl refl space c.put_fields.ensures c.put_sequence.ensures c.put_fields-2.ensures)
-    (piece refl (piece refl none))
-    (piece (byte-number c.struct_known-6-1.given.1.1.1.0) (pair _ c.struct_known-6-1.given.1.1.1.1.0.0.1.0 (piece refl blank)))
+returns c = around _ _ _ _ _ c.put_fields.ensures c.put_sequence.ensures c.put_fields-2.ensures (leb-true _ _ (sym c.has_room.ensures ∙ c.if-not-has_room.false)) ∙ ap (placed _ _) (row_is c.args.t)
