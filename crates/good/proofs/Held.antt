@@ -10,6 +10,10 @@ use lib.Dec.{eqb, leb}
 use lib.ListN.{get_or-append, get_or-eq_default, length, get_or, take, drop, take-append-drop, length-drop}
 use lib.Seq.{ext_get_or, get_or-take, get_or-drop, length-take-le, get_or-append-add, drop-drop}
 use borrow.Author.Tests.{eqb-true, eq-eqb, leb-true, leb-false}
+use lib.Pointwise.{pointwise}
+use mathlib.Core.Logic.{◌≢◌}
+use Rattle.std.specs.Bool.{MatchBool, nat_eq}
+use Rattle.std.specs.Cmp.Lexicographic.{told_text}
 use Rattle.rows.specs.Bytes.{placed, tab, zeros}
 use Rattle.rows.specs.Tests.{all, all_zero}
 use Rattle.rows.proofs.All.{all_none, all_at, all_every}
@@ -97,22 +101,44 @@ module _ (l : List ℕ) (o : ℕ) (b : List ℕ) where
           ∙ rw (← h.long) (get_or-append-add h.pre (b ++ h.post) k 0)
           ∙ get_or-append b h.post 0 k p
 
-  pub held_fact : o + length b ≤ length l → held l o b ≡ true → Holds l o b
+  pub part_held : take (length b) (drop o l) ≡ b → held l o b ≡ true
   unfolding held
+  part_held e =
+      all_every (length b) (λ k. eqb (get_or l (o + k) 0) (get_or b k 0))
+      (λ k p. eq-eqb (get_or l (o + k) 0) (get_or b k 0)
+      (sym (get_or-drop o l k 0) ∙ sym (get_or-take (length b) (drop o l) k 0 p) ∙ ap (λ (t : List ℕ). get_or t k 0) e))
+
+  pub held_part : o + length b ≤ length l → held l o b ≡ true → take (length b) (drop o l) ≡ b
+  unfolding held
+  held_part room e =
+      let long : length (take (length b) (drop o l)) ≡ length b = length-take-le (length b) (drop o l) (rw (length-drop o l) (omega arith)) in
+      ext_get_or 0 (take (length b) (drop o l)) b long
+      (λ k p. get_or-take (length b) (drop o l) k 0 (omega arith) ∙ get_or-drop o l k 0
+      ∙ eqb-true (get_or l (o + k) 0) (get_or b k 0) (all_at (length b) k (λ k. eqb (get_or l (o + k) 0) (get_or b k 0)) e (omega arith)))
+
+  pub held_fact : o + length b ≤ length l → held l o b ≡ true → Holds l o b
   held_fact room e =
       record { pre = take o l; post = drop (o + length b) l; long = length-take-le o l (omega arith); whole = whole }
     where
-      part : take (length b) (drop o l) ≡ b
-      part =
-          let long : length (take (length b) (drop o l)) ≡ length b = length-take-le (length b) (drop o l) (rw (length-drop o l) (omega arith)) in
-          ext_get_or 0 (take (length b) (drop o l)) b long
-          (λ k p. get_or-take (length b) (drop o l) k 0 (omega arith) ∙ get_or-drop o l k 0
-          ∙ eqb-true (get_or l (o + k) 0) (get_or b k 0) (all_at (length b) k (λ k. eqb (get_or l (o + k) 0) (get_or b k 0)) e (omega arith)))
-
       whole : l ≡ take o l ++ (b ++ drop (o + length b) l)
       whole =
           sym (take-append-drop o l)
-          ∙ ap (λ (t : List ℕ). take o l ++ t) (sym (take-append-drop (length b) (drop o l)) ∙ rw (part, drop-drop))
+          ∙ ap (λ (t : List ℕ). take o l ++ t) (sym (take-append-drop (length b) (drop o l)) ∙ rw (held_part room e, drop-drop))
+
+  -- `==` of the n elements from o on
+  pub part_same : {n : ℕ} → length b ≡ n → o + n ≤ length l → {r : Bool} → r ≡ pointwise nat_eq (take (o + n - o) (drop o l)) b → r ≡ held l o b
+  part_same {n} long room {r} e = go r (told_text (take (o + n - o) (drop o l)) b r e)
+    where
+      same : o + n - o ≡ length b
+      same = omega arith
+
+      go : (r : Bool) → MatchBool r (take (o + n - o) (drop o l) ≡ b) (take (o + n - o) (drop o l) ≢ b) → r ≡ held l o b
+      go true h = sym (part_held (rw same at h))
+      go false h = case (held l o b) refl
+        where
+          case : (t : Bool) → held l o b ≡ t → false ≡ held l o b
+          case true q = absurd (h (rw same (held_part (omega arith) q)))
+          case false q = sym q
 
 zero_at : (n k : ℕ) → get_or (zeros n) k 0 ≡ 0
 unfolding zeros

@@ -1,5 +1,5 @@
 -- A message's place by its row: free, or with what the row says in it. Assumes nothing.
-use mathlib.Core.Path.{◌≡◌, sym, ap, ◌∙◌}
+use mathlib.Core.Path.{◌≡◌, refl, sym, ap, ◌∙◌}
 use mathlib.Core.Bool.{false, and-false}
 use mathlib.Core.List.{List}
 use Prim.Native.Nat.{ℕ, ◌+◌, ◌≤◌, ◌<◌}
@@ -20,9 +20,10 @@ use Rattle.state.specs.declared.Message.{Message}
 use Rattle.state.specs.Meaning.{body_of, message_of}
 use Rattle.messages.specs.Made.{made_with}
 use Rattle.messages.proofs.Made.{made_row, says_own}
-use Rattle.image.specs.Parts.{message_row}
+use Rattle.image.specs.Parts.{message_row, message_row_at}
+use Rattle.image.proofs.Meaning.{message-read}
 use Rattle.image.proofs.Parts.{place_of, said_bytes}
-use Rattle.good.specs.Rows.{held, sent, place_good}
+use Rattle.good.specs.Rows.{held, sent, place_good, message_good}
 use Rattle.good.proofs.Held.{zero_held}
 
 module _ (l : List ℕ) (o : ℕ) where
@@ -40,13 +41,13 @@ module _ (l : List ℕ) (o : ℕ) where
       free_good (rw (lt-leb (get_or l o 0) 11 h, and-false (leb 1 (get_or l o 0))))
       ∙ all_fails message_width 0 (λ k. eqb (get_or l (o + k) 0) 0) (omega arith) (rw (add-zero o) (ne_eqb (get_or l o 0) 0 (λ z. omega arith)))
 
-  module _ (m : Message) (e : message_row m ≡ row_at l o) where
-    pub kind-is : m.body.kind ≡ get_or l o 0
-    unfolding message_row row_at
-    kind-is = ap (λ r. r.kind) e
-
-    pub place_waits : 1 ≤ m.body.kind → m.body.kind ≤ 11 → place_in (row_at l o) ≡ waiting (message_of m)
-    place_waits low high = ap place_in (sym e) ∙ place_of m low high
+  -- the row of a message whose kind is one of the eleven says what waits in its place
+  pub place_says : 1 ≤ get_or l o 0 → get_or l o 0 ≤ 11 → place_good l o ≡ message_good l o
+  unfolding place_good message_good message_row_at
+  place_says low high =
+      let e : place_in (row_at l o) ≡ waiting (message_of (message_row_at l o)) =
+      ap place_in (sym (message-read l o refl)) ∙ place_of (message_row_at l o) low high in
+      rw e refl
 
 -- a message whose body is made plain has the bytes of its place
 pub plain_place : (from to : ℕ) (b plain : Body) → plain ≡ made_with b.sequence (body_of b)

@@ -3,10 +3,11 @@ use Rattle.std.specs.Prelude.{◌&&◌, ◌||◌}
 use mathlib.Core.Path.{◌≡◌, refl, sym, ◌∙◌}
 use mathlib.Core.Bool.{Bool, true, false, not, and-false, and-true}
 use mathlib.Core.List.{List, [], ◌∷◌}
-use Prim.Native.Nat.{ℕ, zero, suc, ◌<◌}
+use Prim.Native.Nat.{ℕ, zero, suc, ◌+◌, ◌*◌, ◌%◌, ◌^◌, ◌<◌}
 use mir.Syntax.{w16}
 use mir.Val.{Fits}
 use native.Mathlib.Omega.{arith}
+use lib.Pow.{shl_exact, pow-add}
 use lib.Dec.{eqb, ltb}
 use lib.ListN.{length, get_or}
 use borrow.Author.Tests.{not-true, not-false, lt-ltb, ne_eqb}
@@ -86,3 +87,8 @@ module _ {n : ℕ} (l : List ℕ) (e : n ≡ length l) where
       go : (l : List ℕ) → eqb (length l) 0 ≡ none l
       go [] = refl
       go (x ∷ l) = ne_eqb (suc (length l)) 0 (λ z. omega arith)
+
+-- ---- the updates of a relay
+
+pub leaves_is : (s : ℕ) → s < 8 → (256 * 2 ^ s) % 65536 ≡ 2 ^ (8 + s)
+leaves_is s h = shl_exact 9 s 16 (omega arith) (omega arith) ∙ sym (pow-add 2 8 s)

@@ -37,7 +37,7 @@ use Rattle.state.specs.declared.Head.{Head}
 use Rattle.state.specs.Meaning.{relay_of}
 use Rattle.image.specs.Parts.{head_at}
 use Rattle.image.proofs.Parts.{relay_parts, head_alone}
-use Rattle.good.specs.Rows.{held, differs, head_good, row_good, other_row, place_filled, filled_good, desk_good, place_good, relay_good, rows_good}
+use Rattle.good.specs.Rows.{held, differs, head_good, generator_row_good, transfer_row_good, other_generator, other_transfer, place_filled, filled_good, desk_good, place_good, relay_good, rows_good}
 use Rattle.good.proofs.Tests.{no_generators, no_transfers}
 use Rattle.good.proofs.Held.{from-tab, all-tab, held_true, held_fact}
 use Rattle.good.proofs.Rows.{rows_same}
@@ -46,15 +46,15 @@ use Rattle.good.proofs.Rows.{rows_same}
 
 module _ (l : List ℕ) (s o : ℕ) where
   generators_same : o + generators_width ≤ length l → let gs = those filled_generator (tab 8 (λ k. generator_at l (o + k * generator_width))) in
-      all 8 (filled_good true generator_width l s o) ≡ good_generators s gs && held l o (table generator_bytes (fresh 0) 8 gs)
-  unfolding filled_good place_filled differs other_row row_good good_generators
+      all 8 (filled_good other_generator generator_row_good generator_width l s o) ≡ good_generators s gs && held l o (table generator_bytes (fresh 0) 8 gs)
+  unfolding filled_good place_filled differs other_generator generator_row_good good_generators
   generators_same room =
       rows_same generator_bytes (fresh 0) generator_width length_generator generator_zeros_lem filled_generator unfilled_generator (good_generator s) other_view
       GeneratorFits (generator_fits s) no_generator (generator_filled s) generator_at l (generator_back l) o room
 
   transfers_same : o + transfers_width ≤ length l → let ts = those filled_transfer (tab 8 (λ k. transfer_at l (o + k * transfer_width))) in
-      all 8 (filled_good false transfer_width l s o) ≡ good_transfers s ts && held l o (table transfer_bytes (fresh_transfer 0 0) 8 ts)
-  unfolding filled_good place_filled differs other_row row_good good_transfers
+      all 8 (filled_good other_transfer transfer_row_good transfer_width l s o) ≡ good_transfers s ts && held l o (table transfer_bytes (fresh_transfer 0 0) 8 ts)
+  unfolding filled_good place_filled differs other_transfer transfer_row_good good_transfers
   transfers_same room =
       rows_same transfer_bytes (fresh_transfer 0 0) transfer_width length_transfer transfer_zeros_lem filled_transfer unfilled_transfer (good_transfer s) other_move
       TransferFits (transfer_fits s) no_transfer (transfer_filled s) transfer_at l (transfer_back l) o room

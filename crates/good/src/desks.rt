@@ -1,126 +1,104 @@
 // The four desks.
-ghost use Rattle.std.specs.Prelude.{◌≡◌, ◌+◌, ◌*◌, ◌≤◌, length};
+ghost use Rattle.std.specs.Prelude.{◌≡◌, length};
 ghost use Rattle.rows.specs.Tests.{all};
 ghost use Rattle.rules.specs.declared.Phase.TheVariants.{Idle, Read1, Read2, Write1, Write2};
 ghost use Rattle.rules.specs.WellFormed.{good_best, no_best, good_phase, good_desk};
-ghost use Rattle.layout.specs.Layout.{desk_width, world_width, desk_begin};
+ghost use Rattle.layout.specs.Layout.{world_width, desk_begin};
+ghost use Rattle.layout.specs.Image.{desk_at, desk_bytes};
+ghost use Rattle.image.proofs.Widths.{length-desk};
 ghost use Rattle.good.specs.Rows.{desk_good};
+ghost use Rattle.good.specs.Meant.{desk_means};
 
+use super::row::{Row, good_row};
+use layout::DESK_WIDTH;
 use rules::{Desk, Phase};
 
 fn no_best(d: Desk) -> bool
     ensures { result ≡ no_best d }
 {
-    let best = d.best;
-    if !super::parts::is_zero_pair(best) {
-        return false;
-    }
-    !d.agreed
+    super::parts::is_zero_pair(d.best) && !d.agreed
 }
 
 fn good_best(d: Desk) -> bool
     ensures { result ≡ good_best d }
 {
-    let best = d.best;
-    if !super::parts::good_pair(best) {
-        return false;
-    }
-    if d.replied != 0 {
-        return true;
-    }
-    no_best(d)
+    super::parts::good_pair(d.best) && (d.replied != 0 || no_best(d))
 }
 
+#[tactic(auto, unfolding(rules::specs::WellFormed::good_phase, rules::specs::Sets::all_hold))]
 fn good_idle(d: Desk) -> bool
     ensures { result ≡ good_phase Idle d }
 {
-    let holds = d.holds;
-    if !super::parts::is_zero_pair(holds) {
-        return false;
-    }
-    if d.replied != 0 {
-        return false;
-    }
-    no_best(d)
+    super::parts::is_zero_pair(d.holds) && d.replied == 0 && no_best(d)
 }
 
+#[tactic(auto, unfolding(rules::specs::WellFormed::good_phase, rules::specs::Sets::all_hold))]
 fn good_read1(d: Desk) -> bool
     ensures { result ≡ good_phase Read1 d }
 {
-    let holds = d.holds;
-    if !super::parts::is_zero_pair(holds) {
-        return false;
-    }
-    good_best(d)
+    super::parts::is_zero_pair(d.holds) && good_best(d)
 }
 
+#[tactic(auto, unfolding(rules::specs::WellFormed::good_phase, rules::specs::WellFormed::is_pair, rules::specs::Sets::all_hold))]
 fn good_write1(d: Desk) -> bool
     ensures { result ≡ good_phase Write1 d }
 {
-    let holds = d.holds;
-    if holds.stamp.count != 0 {
-        return false;
-    }
-    if holds.stamp.desk != 0 {
-        return false;
-    }
-    good_best(d)
+    d.holds.stamp.count == 0 && d.holds.stamp.desk == 0 && good_best(d)
 }
 
 // Phase 2, of a read and of a write.
+#[tactic(auto, unfolding(rules::specs::WellFormed::good_phase, rules::specs::Sets::all_hold))]
 fn good_second(d: Desk) -> bool
     ensures { (result ≡ good_phase Read2 d) × (result ≡ good_phase Write2 d) }
 {
-    let holds = d.holds;
-    if !super::parts::good_pair(holds) {
-        return false;
-    }
-    no_best(d)
+    super::parts::good_pair(d.holds) && no_best(d)
 }
 
 fn good_phase(d: Desk) -> bool
     ensures { result ≡ good_phase d.phase d }
 {
-    let phase = d.phase;
-    match phase {
+    match d.phase {
         Phase::Idle => good_idle(d),
         Phase::Read1 => good_read1(d),
-        Phase::Read2 => good_second(d),
         Phase::Write1 => good_write1(d),
-        Phase::Write2 => good_second(d),
+        Phase::Read2 | Phase::Write2 => good_second(d),
     }
 }
 
-fn good_desk(d: Desk) -> bool
-    ensures { result ≡ good_desk d }
-{
-    if !super::parts::are_members(d.replied, d.view) {
-        return false;
-    }
-    good_phase(d)
-}
+impl Row<DESK_WIDTH> for Desk {
+    ghost row_at = { desk_at };
 
-fn good_desk_row(w: &[u8], at: usize) -> bool
-    requires { at + desk_width ≤ length w.now }
-    ensures { result ≡ desk_good w.now at }
-{
-    let d = image::desk_at(w, at);
-    if !good_desk(d) {
-        return false;
+    ghost tested = { λ _ d. good_desk d };
+
+    ghost bytes = { desk_bytes };
+
+    ghost good = { λ l _ o. desk_good l o };
+
+    fn read(w: &[u8], at: usize) -> Desk {
+        image::desk_at(w, at)
     }
-    let mut row = [0u8; layout::DESK_WIDTH];
-    image::put_desk(&mut row, 0, d);
-    super::parts::same_part(&row, w, at)
+
+    #[tactic(auto, unfolding(rules::specs::WellFormed::good_desk, rules::specs::Sets::all_hold))]
+    fn is_good(self, _s: u8) -> bool {
+        super::parts::are_members(self.replied, self.view) && good_phase(self)
+    }
+
+    fn put(self, row: &mut [u8]) {
+        image::put_desk(row, 0, self);
+    }
+
+    ghost wide = { length-desk };
+
+    ghost means = { desk_means };
 }
 
 pub(crate) fn good_desks(w: &[u8]) -> bool
     requires { length w.now ≡ world_width }
     ensures { result ≡ all 4 (λ n. desk_good w.now (desk_begin n)) }
 {
-    for n in 0..rules::DESKS {
-        if !good_desk_row(w, layout::WORLD_DESKS + n * layout::DESK_WIDTH) {
-            return false;
-        }
-    }
-    true
+    (0..rules::DESKS).all(|n| good_row::<Desk, DESK_WIDTH>(
+        w,
+        0,
+        layout::WORLD_DESKS + n * DESK_WIDTH,
+    ))
 }

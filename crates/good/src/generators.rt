@@ -1,78 +1,72 @@
 // A relay's eight generators.
-ghost use Rattle.std.specs.Prelude.{◌≡◌, true, ◌+◌, ◌≤◌, length};
+ghost use Rattle.std.specs.Prelude.{◌≡◌};
 ghost use Rattle.views.specs.Row.{views_of};
 ghost use Rattle.rules.specs.WellFormed.{good_note, good_notes, good_generator};
-ghost use Rattle.layout.specs.Layout.{generator_width};
+ghost use Rattle.layout.specs.Image.{generator_bytes};
 ghost use Rattle.state.specs.Meaning.{notes_of, generator_of};
-ghost use Rattle.good.specs.Rows.{row_good};
+ghost use Rattle.image.specs.Parts.{generator_row_at};
+ghost use Rattle.image.proofs.Widths.{length_generator};
+ghost use Rattle.good.specs.Rows.{generator_row_good, other_generator};
+ghost use Rattle.good.specs.Meant.{generator_means};
 
+use super::row::{Named, Row};
+use layout::GENERATOR_WIDTH;
 use state::{Generator, Notes};
 use views::Sequence;
 
 fn good_note(v: u16, s: u8, q: Sequence) -> bool
     ensures { result ≡ good_note v s (views_of q) }
 {
-    if !views::above(v, q) {
-        return false;
-    }
-    if views::count(q) == 0 {
-        return true;
-    }
-    views::is_member(v, s)
+    views::above(v, q) && (views::count(q) == 0 || views::is_member(v, s))
 }
 
 fn good_notes(v: u16, n: Notes) -> bool
     ensures { result ≡ good_notes v (notes_of n) }
 {
-    let of = n.of;
-    for i in 0..8usize {
-        let q = of[i];
-        if !good_note(v, i as u8, q) {
-            return false;
-        }
-    }
-    true
+    n.of.iter()
+        .enumerate()
+        .all(|(i, q)| good_note(v, i as u8, *q))
 }
 
-fn good_generator(s: u8, g: Generator) -> bool
-    ensures { result ≡ good_generator s (generator_of g) }
-{
-    let v = g.view;
-    let own = g.own;
-    let converged = g.converged;
-    let raised = g.raised;
-    let proposals = g.proposals;
-    let convergences = g.convergences;
-    if !views::is_member(v, s) {
-        return false;
+impl Row<GENERATOR_WIDTH> for Generator {
+    ghost row_at = { generator_row_at };
+
+    ghost tested = { λ s g. good_generator s (generator_of g) };
+
+    ghost bytes = { λ g. generator_bytes (generator_of g) };
+
+    ghost good = { generator_row_good };
+
+    fn read(w: &[u8], at: usize) -> Generator {
+        image::generator_at(w, at)
     }
-    if !views::above(v, own) {
-        return false;
+
+    #[tactic(auto, unfolding(rules::specs::WellFormed::good_generator, rules::specs::Sets::all_hold, state::specs::Meaning::generator_of))]
+    fn is_good(self, s: u8) -> bool {
+        let v = self.view;
+        views::is_member(v, s)
+            && views::above(v, self.own)
+            && views::above(v, self.converged)
+            && views::above(v, self.raised)
+            && !views::lacks(self.converged, self.own)
+            && good_notes(v, self.proposals)
+            && good_notes(v, self.convergences)
     }
-    if !views::above(v, converged) {
-        return false;
+
+    fn put(self, row: &mut [u8]) {
+        image::put_generator(row, 0, self);
     }
-    if !views::above(v, raised) {
-        return false;
-    }
-    if views::lacks(converged, own) {
-        return false;
-    }
-    if !good_notes(v, proposals) {
-        return false;
-    }
-    good_notes(v, convergences)
+
+    ghost wide = { λ g. length_generator (generator_of g) };
+
+    ghost means = { generator_means };
 }
 
-pub(crate) fn good_generator_row(w: &[u8], s: u8, at: usize) -> bool
-    requires { at + generator_width ≤ length w.now }
-    ensures { result ≡ row_good true w.now s at }
-{
-    let g = image::generator_at(w, at);
-    if !good_generator(s, g) {
-        return false;
+impl Named<GENERATOR_WIDTH> for Generator {
+    ghost other = { other_generator };
+
+    #[tactic(auto, unfolding(crate::specs::Rows::other_generator, layout::specs::Image::generator_at))]
+    fn same_name(w: &[u8], a: usize, b: usize) -> bool {
+        rows::read_u16(w, a) == rows::read_u16(w, b)
     }
-    let mut row = [0u8; layout::GENERATOR_WIDTH];
-    image::put_generator(&mut row, 0, g);
-    super::parts::same_part(&row, w, at)
 }

@@ -10,23 +10,17 @@ mod generators;
 mod parts;
 mod places;
 mod relays;
+mod row;
 mod tables;
 mod transfers;
 
+#[tactic(auto, using(crate::proofs::World::bytes_good, crate::proofs::World::other_length), unfolding(crate::specs::Rows::rows_good))]
 pub fn is_good(w: &[u8]) -> bool
     ensures { result ≡ good_bytes w.now }
 {
-    if w.len() != layout::WORLD_WIDTH {
-        return false;
-    }
-    if !relays::good_relays(w) {
-        return false;
-    }
-    if !desks::good_desks(w) {
-        return false;
-    }
-    if !places::good_places(w) {
-        return false;
-    }
-    rows::is_zero(w, layout::WORLD_ZEROS, layout::WORLD_REST)
+    w.len() == layout::WORLD_WIDTH
+        && relays::good_relays(w)
+        && desks::good_desks(w)
+        && places::good_places(w)
+        && rows::is_zero(w, layout::WORLD_ZEROS, layout::WORLD_REST)
 }

@@ -1,65 +1,39 @@
 // What rows of several kinds have in them.
-ghost use Rattle.std.specs.Prelude.{◌≡◌, ◌+◌, ◌≤◌, length};
+ghost use Rattle.std.specs.Prelude.{◌≡◌};
 ghost use Rattle.views.specs.Row.{views_of};
 ghost use Rattle.rules.specs.Sets.{members, within};
 ghost use Rattle.rules.specs.WellFormed.{is_pair, is_zero_pair, good_move, good_installed};
-ghost use Rattle.good.specs.Rows.{held};
 
 use stamps::Pair;
 use views::Sequence;
 
-// The bytes of `a` stand in `w` from `at` on.
-pub(crate) fn same_part(a: &[u8], w: &[u8], at: usize) -> bool
-    requires { at + length a.now ≤ length w.now }
-    ensures { result ≡ held w.now at a.now }
-{
-    for i in 0..a.len() {
-        if w[at + i] != a[i] {
-            return false;
-        }
-    }
-    true
-}
-
+#[tactic(auto, unfolding(rules::specs::WellFormed::is_pair))]
 pub(crate) fn good_pair(p: Pair) -> bool
     ensures { result ≡ is_pair p }
 {
-    p.stamp.desk < 4
+    (p.stamp.desk as usize) < rules::DESKS
 }
 
 pub(crate) fn is_zero_pair(p: Pair) -> bool
     ensures { result ≡ is_zero_pair p }
 {
-    if p.stamp.count != 0 {
-        return false;
-    }
-    if p.stamp.desk != 0 {
-        return false;
-    }
-    p.value == 0
+    p.stamp.count == 0 && p.stamp.desk == 0 && p.value == 0
 }
 
 // An old view and a new one.
+#[tactic(auto, unfolding(rules::specs::WellFormed::good_move, rules::specs::Sets::all_hold))]
 pub(crate) fn good_move(o: u16, w: u16) -> bool
     ensures { result ≡ good_move o w }
 {
-    if views::members(o) == 0 {
-        return false;
-    }
-    views::inside(o, w)
+    views::members(o) != 0 && views::inside(o, w)
 }
 
 // An install's sequence.
+#[tactic(auto, unfolding(rules::specs::WellFormed::good_installed, rules::specs::Sets::all_hold, rules::specs::Sets::none))]
 pub(crate) fn good_installed(o: u16, w: u16, q: Sequence) -> bool
     ensures { result ≡ good_installed o w (views_of q) }
 {
-    if views::count(q) == 0 {
-        return false;
-    }
-    if !views::above(o, q) {
-        return false;
-    }
-    views::least(q) == w
+    views::count(q) != 0 && views::above(o, q) && views::least(q) == w
 }
 
 // Only members of v are in the set `who`.

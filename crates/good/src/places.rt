@@ -1,5 +1,5 @@
 // The 256 places of messages.
-ghost use Rattle.std.specs.Prelude.{◌≡◌, not, ◌+◌, ◌*◌, ◌≤◌, ◌<◌, eqb, ltb, length, ◌&&◌};
+ghost use Rattle.std.specs.Prelude.{◌≡◌, not, ◌+◌, ◌≤◌, ◌<◌, eqb, ltb, length, ◌&&◌};
 ghost use Rattle.rows.specs.Tests.{all};
 ghost use Rattle.views.specs.Row.{views_of};
 ghost use Rattle.rules.specs.Sets.{joins, leaves, member, within};
@@ -8,8 +8,14 @@ ghost use Rattle.rules.specs.State.{waiting};
 ghost use Rattle.rules.specs.WellFormed.{is_desk, good_request, good_place};
 ghost use Rattle.layout.specs.Layout.{message_width, world_width, place_begin};
 ghost use Rattle.state.specs.Meaning.{message_of};
-ghost use Rattle.good.specs.Rows.{sent, place_good};
+ghost use Rattle.layout.specs.Image.{place_bytes};
+ghost use Rattle.image.specs.Parts.{message_row_at};
+ghost use Rattle.layout.proofs.Widths.{length-place};
+ghost use Rattle.good.specs.Rows.{sent, place_good, message_good};
+ghost use Rattle.good.specs.Meant.{message_means};
 
+use super::row::{Row, good_row};
+use layout::MESSAGE_WIDTH;
 use stamps::Pair;
 use state::Message;
 use views::Sequence;
@@ -17,40 +23,34 @@ use views::Sequence;
 fn is_desk(who: u8) -> bool
     ensures { result ≡ is_desk who }
 {
-    if who < 8 {
-        return false;
-    }
-    who < 12
+    (rules::RELAYS..rules::EVERYONE).contains(&(who as usize))
 }
 
 // From a member of v to a member of w.
 fn between(v: u16, w: u16, from: u8, to: u8) -> bool
     ensures { result ≡ (member v from && member w to) }
 {
-    if !views::is_member(v, from) {
-        return false;
-    }
-    views::is_member(w, to)
+    views::is_member(v, from) && views::is_member(w, to)
 }
 
 // From a desk to a member of the view asked for.
 fn asked(c: u16, from: u8, to: u8) -> bool
     ensures { result ≡ (is_desk from && member c to) }
 {
-    if !is_desk(from) {
-        return false;
-    }
-    views::is_member(c, to)
+    is_desk(from) && views::is_member(c, to)
+}
+
+fn is_relay(who: u8) -> bool
+    ensures { result ≡ ltb who 8 }
+{
+    (who as usize) < rules::RELAYS
 }
 
 // From a relay to a desk.
 fn replied(from: u8, to: u8) -> bool
     ensures { result ≡ (ltb from 8 && is_desk to) }
 {
-    if 8 <= from {
-        return false;
-    }
-    is_desk(to)
+    is_relay(from) && is_desk(to)
 }
 
 // u is +s, and not in c.
@@ -58,127 +58,92 @@ fn asks_to_join(s: u8, u: u16, c: u16) -> bool
     requires { s < 8 }
     ensures { result ≡ (eqb u (joins s) && not (within u c)) }
 {
-    if u != 1u16 << s {
-        return false;
-    }
-    !views::within(u, c)
+    u == 1u16 << s && !views::within(u, c)
 }
 
 // u is -s, and s a member of c.
+#[tactic(auto, using(crate::proofs::Tests::leaves_is))]
 fn asks_to_leave(s: u8, u: u16, c: u16) -> bool
     requires { s < 8 }
     ensures { result ≡ (eqb u (leaves s) && member c s) }
 {
-    if u != 256u16 << s {
-        return false;
-    }
-    views::is_member(c, s)
+    u == 256u16 << s && views::is_member(c, s)
 }
 
 fn good_update(s: u8, u: u16, c: u16) -> bool
     requires { s < 8 }
     ensures { result ≡ good_request s u c }
 {
-    if asks_to_join(s, u, c) {
-        return true;
-    }
-    asks_to_leave(s, u, c)
+    asks_to_join(s, u, c) || asks_to_leave(s, u, c)
 }
 
+#[tactic(auto, unfolding(rules::specs::WellFormed::good_place, rules::specs::WellFormed::good_body, rules::specs::Sets::all_hold))]
 fn good_request(from: u8, to: u8, u: u16, c: u16) -> bool
     ensures { result ≡ good_place (sent from to (request u c)) }
 {
-    if 8 <= from {
-        return false;
-    }
-    if !good_update(from, u, c) {
-        return false;
-    }
-    views::is_member(c, to)
+    is_relay(from) && good_update(from, u, c) && views::is_member(c, to)
 }
 
+#[tactic(auto, unfolding(rules::specs::WellFormed::good_place, rules::specs::WellFormed::good_body, rules::specs::Sets::all_hold))]
 fn good_view(from: u8, to: u8, v: u16) -> bool
     ensures { result ≡ good_place (sent from to (view v)) }
 {
-    if 8 <= from {
-        return false;
-    }
-    if 8 <= to {
-        return false;
-    }
-    v != 0
+    is_relay(from) && is_relay(to) && v != 0
 }
 
 // A proposal, and a convergence.
+#[tactic(auto, unfolding(rules::specs::WellFormed::good_place, rules::specs::WellFormed::good_body, rules::specs::Sets::all_hold))]
 fn good_proposal(from: u8, to: u8, v: u16, q: Sequence) -> bool
     ensures { (result ≡ good_place (sent from to (proposal v (views_of q)))) × (result ≡ good_place (sent from to (converged v (views_of q)))) }
 {
-    if !between(v, v, from, to) {
-        return false;
-    }
-    if !views::above(v, q) {
-        return false;
-    }
-    views::count(q) != 0
+    between(v, v, from, to) && views::above(v, q) && views::count(q) != 0
 }
 
+#[tactic(auto, unfolding(rules::specs::WellFormed::good_place, rules::specs::WellFormed::good_body, rules::specs::Sets::all_hold))]
 fn good_install(from: u8, to: u8, o: u16, w: u16, q: Sequence) -> bool
     ensures { result ≡ good_place (sent from to (install o w (views_of q))) }
 {
-    if !super::parts::good_move(o, w) {
-        return false;
-    }
-    if !super::parts::good_installed(o, w, q) {
-        return false;
-    }
-    if between(o, o, from, to) {
-        return true;
-    }
-    between(o, w, from, to)
+    super::parts::good_move(o, w)
+        && super::parts::good_installed(o, w, q)
+        && (between(o, o, from, to) || between(o, w, from, to))
 }
 
+#[tactic(auto, unfolding(rules::specs::WellFormed::good_place, rules::specs::WellFormed::good_body, rules::specs::Sets::all_hold))]
 fn good_state(from: u8, to: u8, o: u16, w: u16, p: Pair, u: u16) -> bool
     ensures { result ≡ good_place (sent from to (state o w p u)) }
 {
-    if !super::parts::good_move(o, w) {
-        return false;
-    }
-    if !between(o, w, from, to) {
-        return false;
-    }
-    super::parts::good_pair(p)
+    super::parts::good_move(o, w) && between(o, w, from, to) && super::parts::good_pair(p)
 }
 
+#[tactic(auto, unfolding(rules::specs::WellFormed::good_place, rules::specs::WellFormed::good_body, rules::specs::Sets::all_hold))]
 fn good_get(from: u8, to: u8, tries: u16, c: u16) -> bool
     ensures { result ≡ good_place (sent from to (get tries c)) }
 {
     asked(c, from, to)
 }
 
+#[tactic(auto, unfolding(rules::specs::WellFormed::good_place, rules::specs::WellFormed::good_body, rules::specs::Sets::all_hold))]
 fn good_put(from: u8, to: u8, tries: u16, c: u16, p: Pair) -> bool
     ensures { result ≡ good_place (sent from to (put tries c p)) }
 {
-    if !asked(c, from, to) {
-        return false;
-    }
-    super::parts::good_pair(p)
+    asked(c, from, to) && super::parts::good_pair(p)
 }
 
+#[tactic(auto, unfolding(rules::specs::WellFormed::good_place, rules::specs::WellFormed::good_body, rules::specs::Sets::all_hold))]
 fn good_view_reply(from: u8, to: u8, tries: u16, v: u16) -> bool
     ensures { result ≡ good_place (sent from to (view_reply tries v)) }
 {
     replied(from, to)
 }
 
+#[tactic(auto, unfolding(rules::specs::WellFormed::good_place, rules::specs::WellFormed::good_body, rules::specs::Sets::all_hold))]
 fn good_pair_reply(from: u8, to: u8, tries: u16, p: Pair) -> bool
     ensures { result ≡ good_place (sent from to (pair_reply tries p)) }
 {
-    if !super::parts::good_pair(p) {
-        return false;
-    }
-    replied(from, to)
+    super::parts::good_pair(p) && replied(from, to)
 }
 
+#[tactic(auto, unfolding(rules::specs::WellFormed::good_place, rules::specs::WellFormed::good_body, rules::specs::Sets::all_hold))]
 fn good_ack(from: u8, to: u8, tries: u16) -> bool
     ensures { result ≡ good_place (sent from to (ack tries)) }
 {
@@ -209,39 +174,50 @@ fn good_message(m: Message) -> bool
     }
 }
 
+// Its bytes are those of what the message says alone.
+impl Row<MESSAGE_WIDTH> for Message {
+    ghost row_at = { message_row_at };
+
+    ghost tested = { λ _ m. good_place (waiting (message_of m)) };
+
+    ghost bytes = { λ m. place_bytes (waiting (message_of m)) };
+
+    ghost good = { λ l _ o. message_good l o };
+
+    fn read(w: &[u8], at: usize) -> Message {
+        image::message_at(w, at)
+    }
+
+    fn is_good(self, _s: u8) -> bool {
+        good_message(self)
+    }
+
+    #[tactic(auto, using(crate::proofs::Messages::plain_place), unfolding(layout::specs::Image::place_bytes, state::specs::Meaning::message_of))]
+    fn put(self, row: &mut [u8]) {
+        let body = messages::plain(self.body);
+        image::put_message(row, 0, Message { body, ..self });
+    }
+
+    ghost wide = { λ m. length-place (waiting (message_of m)) };
+
+    ghost means = { message_means };
+}
+
+#[tactic(auto, using(crate::proofs::Messages::no_kind_lem, crate::proofs::Messages::above_kinds, crate::proofs::Messages::place_says))]
 fn good_place_row(w: &[u8], at: usize) -> bool
     requires { at + message_width ≤ length w.now }
     ensures { result ≡ place_good w.now at }
 {
     let kind = rows::byte_at(w, at);
     if kind == layout::NO_KIND {
-        return rows::is_zero(w, at, layout::MESSAGE_WIDTH);
+        return rows::is_zero(w, at, MESSAGE_WIDTH);
     }
-    if layout::ACK < kind {
-        return false;
-    }
-    let m = image::message_at(w, at);
-    if !good_message(m) {
-        return false;
-    }
-    let p = Message {
-        from: m.from,
-        to: m.to,
-        body: messages::plain(m.body),
-    };
-    let mut row = [0u8; layout::MESSAGE_WIDTH];
-    image::put_message(&mut row, 0, p);
-    super::parts::same_part(&row, w, at)
+    kind <= layout::ACK && good_row::<Message, MESSAGE_WIDTH>(w, 0, at)
 }
 
 pub(crate) fn good_places(w: &[u8]) -> bool
     requires { length w.now ≡ world_width }
     ensures { result ≡ all 256 (λ p. place_good w.now (place_begin p)) }
 {
-    for p in 0..rules::PLACES {
-        if !good_place_row(w, layout::WORLD_PLACES + p * layout::MESSAGE_WIDTH) {
-            return false;
-        }
-    }
-    true
+    (0..rules::PLACES).all(|p| good_place_row(w, layout::WORLD_PLACES + p * MESSAGE_WIDTH))
 }

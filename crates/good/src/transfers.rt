@@ -1,12 +1,17 @@
 // A relay's eight transfers.
-ghost use Rattle.std.specs.Prelude.{◌≡◌, false, ◌+◌, ◌≤◌, length, ◌||◌};
+ghost use Rattle.std.specs.Prelude.{◌≡◌, ◌||◌};
 ghost use Rattle.views.specs.Row.{views_of};
 ghost use Rattle.rules.specs.Sets.{none};
 ghost use Rattle.rules.specs.WellFormed.{good_installed, good_transfer};
-ghost use Rattle.layout.specs.Layout.{transfer_width};
+ghost use Rattle.layout.specs.Image.{transfer_bytes};
 ghost use Rattle.state.specs.Meaning.{transfer_of};
-ghost use Rattle.good.specs.Rows.{row_good};
+ghost use Rattle.image.specs.Parts.{transfer_row_at};
+ghost use Rattle.image.proofs.Widths.{length_transfer};
+ghost use Rattle.good.specs.Rows.{transfer_row_good, other_transfer};
+ghost use Rattle.good.specs.Meant.{transfer_means};
 
+use super::row::{Named, Row};
+use layout::TRANSFER_WIDTH;
 use state::Transfer;
 use views::Sequence;
 
@@ -14,41 +19,47 @@ use views::Sequence;
 fn good_sequence(o: u16, w: u16, q: Sequence) -> bool
     ensures { result ≡ (none (views_of q) || good_installed o w (views_of q)) }
 {
-    if views::count(q) == 0 {
-        return true;
-    }
-    super::parts::good_installed(o, w, q)
+    views::count(q) == 0 || super::parts::good_installed(o, w, q)
 }
 
-fn good_transfer(s: u8, t: Transfer) -> bool
-    ensures { result ≡ good_transfer s (transfer_of t) }
-{
-    let sequence = t.sequence;
-    let best = t.best;
-    if !views::is_member(t.new, s) {
-        return false;
+impl Row<TRANSFER_WIDTH> for Transfer {
+    ghost row_at = { transfer_row_at };
+
+    ghost tested = { λ s t. good_transfer s (transfer_of t) };
+
+    ghost bytes = { λ t. transfer_bytes (transfer_of t) };
+
+    ghost good = { transfer_row_good };
+
+    fn read(w: &[u8], at: usize) -> Transfer {
+        image::transfer_at(w, at)
     }
-    if !super::parts::good_move(t.old, t.new) {
-        return false;
+
+    #[tactic(auto, unfolding(rules::specs::WellFormed::good_transfer, rules::specs::Sets::all_hold, state::specs::Meaning::transfer_of))]
+    fn is_good(self, s: u8) -> bool {
+        views::is_member(self.new, s)
+            && super::parts::good_move(self.old, self.new)
+            && good_sequence(self.old, self.new, self.sequence)
+            && super::parts::are_members(self.senders, self.old)
+            && super::parts::good_pair(self.best)
     }
-    if !good_sequence(t.old, t.new, sequence) {
-        return false;
+
+    fn put(self, row: &mut [u8]) {
+        image::put_transfer(row, 0, self);
     }
-    if !super::parts::are_members(t.senders, t.old) {
-        return false;
-    }
-    super::parts::good_pair(best)
+
+    ghost wide = { λ t. length_transfer (transfer_of t) };
+
+    ghost means = { transfer_means };
 }
 
-pub(crate) fn good_transfer_row(w: &[u8], s: u8, at: usize) -> bool
-    requires { at + transfer_width ≤ length w.now }
-    ensures { result ≡ row_good false w.now s at }
-{
-    let t = image::transfer_at(w, at);
-    if !good_transfer(s, t) {
-        return false;
+impl Named<TRANSFER_WIDTH> for Transfer {
+    ghost other = { other_transfer };
+
+    #[tactic(auto, unfolding(crate::specs::Rows::other_transfer, layout::specs::Image::transfer_at))]
+    fn same_name(w: &[u8], a: usize, b: usize) -> bool {
+        rows::read_u16(w, a) == rows::read_u16(w, b)
+            && rows::read_u16(w, a + layout::TRANSFER_NEW)
+                == rows::read_u16(w, b + layout::TRANSFER_NEW)
     }
-    let mut row = [0u8; layout::TRANSFER_WIDTH];
-    image::put_transfer(&mut row, 0, t);
-    super::parts::same_part(&row, w, at)
 }

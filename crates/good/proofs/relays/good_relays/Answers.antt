@@ -1,16 +1,9 @@
--- `good::relays::good_relays` meets its contract: the relays before s are good. Assumes nothing.
-use Rattle.rows.proofs.All.{passed_all, passed_fails, passed_more, passed_none}
-use Rattle.good.proofs.Tests.{no, yes}
+-- `good::relays::good_relays` meets its contract. Assumes nothing.
+use mathlib.Core.Path.{refl}
+use borrow.Author.Rules.{rules}
+use Rattle.good.specs.Rows.{relay_good}
+use Rattle.good.proofs.Chains.{all_below}
 use Rattle.good.proofs.relays.good_relays.Goals as goal
 
-pub loop-s-init : goal.loop-s-init
-loop-s-init c = passed_none
-
-pub returns-then-not-good_relay : goal.returns-then-not-good_relay
-returns-then-not-good_relay c = passed_fails c.loop-s.invariant c.loop-s-test.true (no c.good_relay.ensures c.if-not-good_relay.true-raw)
-
-pub loop-s-preserved : goal.loop-s-preserved
-loop-s-preserved c = passed_more c.loop-s.invariant c.loop-s-test.true (yes c.good_relay.ensures c.if-not-good_relay.false-raw)
-
 pub returns : goal.returns
-returns c = passed_all c.loop-s.invariant c.loop-s-test.false
+returns c = all_below 8 (relay_good c.args.w.now) refl c.all.ensures.ran (λ x b q k. search rules)

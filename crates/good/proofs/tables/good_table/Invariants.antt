@@ -34,7 +34,4 @@ zero_later n l o i k h e =
         go (no q) = absurd (omega (arith, ap (λ (x : ℕ). x * n) (let z : 8 - k ≡ 0 = omega arith in z)))
 
 abbrev pub invariant-loop-i : goal.invariant-loop-i
-invariant-loop-i l = Passed seat_count (filled_good l.generators l.width l.w l.s l.at) l.i
-
-abbrev pub decreases-loop-i : goal.decreases-loop-i
-decreases-loop-i l = seat_count - l.i
+invariant-loop-i g l = Passed seat_count (filled_good g.T.Named.other g.T.Row.good g.row.N l.w l.s l.at) l.i
