@@ -90,5 +90,5 @@ module _ {n : ℕ} (l : List ℕ) (e : n ≡ length l) where
 
 -- ---- the updates of a relay
 
-pub leaves_is : (s : ℕ) → s < 8 → (256 * 2 ^ s) % 65536 ≡ 2 ^ (8 + s)
-leaves_is s h = shl_exact 9 s 16 (omega arith) (omega arith) ∙ sym (pow-add 2 8 s)
+pub leaves_is : (s : ℕ) → s < 8 → (1 * 2 ^ (s + 8)) % 65536 ≡ 2 ^ (s + 8)
+leaves_is s h = shl_exact 1 (s + 8) 16 (omega arith) (omega arith) ∙ omega arith

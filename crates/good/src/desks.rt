@@ -1,7 +1,6 @@
 // The four desks.
 ghost use Rattle.std.specs.Prelude.{◌≡◌, length};
 ghost use Rattle.rows.specs.Tests.{all};
-ghost use Rattle.rules.specs.declared.Phase.TheVariants.{Idle, Read1, Read2, Write1, Write2};
 ghost use Rattle.rules.specs.WellFormed.{good_best, no_best, good_phase, good_desk};
 ghost use Rattle.layout.specs.Layout.{world_width, desk_begin};
 ghost use Rattle.layout.specs.Image.{desk_at, desk_bytes};
@@ -9,6 +8,7 @@ ghost use Rattle.image.proofs.Widths.{length-desk};
 ghost use Rattle.good.specs.Rows.{desk_good};
 ghost use Rattle.good.specs.Meant.{desk_means};
 
+use super::parts;
 use super::row::{Row, good_row};
 use layout::DESK_WIDTH;
 use rules::{Desk, Phase};
@@ -16,52 +16,24 @@ use rules::{Desk, Phase};
 fn no_best(d: Desk) -> bool
     ensures { result ≡ no_best d }
 {
-    super::parts::is_zero_pair(d.best) && !d.agreed
+    parts::is_zero_pair(d.best) && !d.agreed
 }
 
 fn good_best(d: Desk) -> bool
     ensures { result ≡ good_best d }
 {
-    super::parts::good_pair(d.best) && (d.replied != 0 || no_best(d))
-}
-
-#[tactic(auto, unfolding(rules::specs::WellFormed::good_phase, rules::specs::Sets::all_hold))]
-fn good_idle(d: Desk) -> bool
-    ensures { result ≡ good_phase Idle d }
-{
-    super::parts::is_zero_pair(d.holds) && d.replied == 0 && no_best(d)
-}
-
-#[tactic(auto, unfolding(rules::specs::WellFormed::good_phase, rules::specs::Sets::all_hold))]
-fn good_read1(d: Desk) -> bool
-    ensures { result ≡ good_phase Read1 d }
-{
-    super::parts::is_zero_pair(d.holds) && good_best(d)
+    parts::good_pair(d.best) && (d.replied != 0 || no_best(d))
 }
 
 #[tactic(auto, unfolding(rules::specs::WellFormed::good_phase, rules::specs::WellFormed::is_pair, rules::specs::Sets::all_hold))]
-fn good_write1(d: Desk) -> bool
-    ensures { result ≡ good_phase Write1 d }
-{
-    d.holds.stamp.count == 0 && d.holds.stamp.desk == 0 && good_best(d)
-}
-
-// Phase 2, of a read and of a write.
-#[tactic(auto, unfolding(rules::specs::WellFormed::good_phase, rules::specs::Sets::all_hold))]
-fn good_second(d: Desk) -> bool
-    ensures { (result ≡ good_phase Read2 d) × (result ≡ good_phase Write2 d) }
-{
-    super::parts::good_pair(d.holds) && no_best(d)
-}
-
 fn good_phase(d: Desk) -> bool
     ensures { result ≡ good_phase d.phase d }
 {
     match d.phase {
-        Phase::Idle => good_idle(d),
-        Phase::Read1 => good_read1(d),
-        Phase::Write1 => good_write1(d),
-        Phase::Read2 | Phase::Write2 => good_second(d),
+        Phase::Idle => parts::is_zero_pair(d.holds) && d.replied == 0 && no_best(d),
+        Phase::Read1 => parts::is_zero_pair(d.holds) && good_best(d),
+        Phase::Write1 => d.holds.stamp.count == 0 && d.holds.stamp.desk == 0 && good_best(d),
+        Phase::Read2 | Phase::Write2 => parts::good_pair(d.holds) && no_best(d),
     }
 }
 
@@ -80,11 +52,11 @@ impl Row<DESK_WIDTH> for Desk {
 
     #[tactic(auto, unfolding(rules::specs::WellFormed::good_desk, rules::specs::Sets::all_hold))]
     fn is_good(self, _s: u8) -> bool {
-        super::parts::are_members(self.replied, self.view) && good_phase(self)
+        parts::are_members(self.replied, self.view) && good_phase(self)
     }
 
-    fn put(self, row: &mut [u8]) {
-        image::put_desk(row, 0, self);
+    fn put(&self, row: &mut [u8]) {
+        image::put_desk(row, 0, *self);
     }
 
     ghost wide = { length-desk };

@@ -53,8 +53,8 @@ impl Row<GENERATOR_WIDTH> for Generator {
             && good_notes(v, self.convergences)
     }
 
-    fn put(self, row: &mut [u8]) {
-        image::put_generator(row, 0, self);
+    fn put(&self, row: &mut [u8]) {
+        image::put_generator(row, 0, *self);
     }
 
     ghost wide = { λ g. length_generator (generator_of g) };

@@ -1,4 +1,6 @@
 // The 256 places of messages.
+#![tactic(auto, unfolding(rules::specs::WellFormed::good_place, rules::specs::WellFormed::good_body, rules::specs::Sets::all_hold))]
+
 ghost use Rattle.std.specs.Prelude.{◌≡◌, not, ◌+◌, ◌≤◌, ◌<◌, eqb, ltb, length, ◌&&◌};
 ghost use Rattle.rows.specs.Tests.{all};
 ghost use Rattle.views.specs.Row.{views_of};
@@ -14,6 +16,7 @@ ghost use Rattle.layout.proofs.Widths.{length-place};
 ghost use Rattle.good.specs.Rows.{sent, place_good, message_good};
 ghost use Rattle.good.specs.Meant.{message_means};
 
+use super::parts;
 use super::row::{Row, good_row};
 use layout::MESSAGE_WIDTH;
 use stamps::Pair;
@@ -67,7 +70,7 @@ fn asks_to_leave(s: u8, u: u16, c: u16) -> bool
     requires { s < 8 }
     ensures { result ≡ (eqb u (leaves s) && member c s) }
 {
-    u == 256u16 << s && views::is_member(c, s)
+    u == 1u16 << (s as usize + rules::RELAYS) && views::is_member(c, s)
 }
 
 fn good_update(s: u8, u: u16, c: u16) -> bool
@@ -77,14 +80,12 @@ fn good_update(s: u8, u: u16, c: u16) -> bool
     asks_to_join(s, u, c) || asks_to_leave(s, u, c)
 }
 
-#[tactic(auto, unfolding(rules::specs::WellFormed::good_place, rules::specs::WellFormed::good_body, rules::specs::Sets::all_hold))]
 fn good_request(from: u8, to: u8, u: u16, c: u16) -> bool
     ensures { result ≡ good_place (sent from to (request u c)) }
 {
     is_relay(from) && good_update(from, u, c) && views::is_member(c, to)
 }
 
-#[tactic(auto, unfolding(rules::specs::WellFormed::good_place, rules::specs::WellFormed::good_body, rules::specs::Sets::all_hold))]
 fn good_view(from: u8, to: u8, v: u16) -> bool
     ensures { result ≡ good_place (sent from to (view v)) }
 {
@@ -92,58 +93,50 @@ fn good_view(from: u8, to: u8, v: u16) -> bool
 }
 
 // A proposal, and a convergence.
-#[tactic(auto, unfolding(rules::specs::WellFormed::good_place, rules::specs::WellFormed::good_body, rules::specs::Sets::all_hold))]
 fn good_proposal(from: u8, to: u8, v: u16, q: Sequence) -> bool
     ensures { (result ≡ good_place (sent from to (proposal v (views_of q)))) × (result ≡ good_place (sent from to (converged v (views_of q)))) }
 {
     between(v, v, from, to) && views::above(v, q) && views::count(q) != 0
 }
 
-#[tactic(auto, unfolding(rules::specs::WellFormed::good_place, rules::specs::WellFormed::good_body, rules::specs::Sets::all_hold))]
 fn good_install(from: u8, to: u8, o: u16, w: u16, q: Sequence) -> bool
     ensures { result ≡ good_place (sent from to (install o w (views_of q))) }
 {
-    super::parts::good_move(o, w)
-        && super::parts::good_installed(o, w, q)
+    parts::good_move(o, w)
+        && parts::good_installed(o, w, q)
         && (between(o, o, from, to) || between(o, w, from, to))
 }
 
-#[tactic(auto, unfolding(rules::specs::WellFormed::good_place, rules::specs::WellFormed::good_body, rules::specs::Sets::all_hold))]
 fn good_state(from: u8, to: u8, o: u16, w: u16, p: Pair, u: u16) -> bool
     ensures { result ≡ good_place (sent from to (state o w p u)) }
 {
-    super::parts::good_move(o, w) && between(o, w, from, to) && super::parts::good_pair(p)
+    parts::good_move(o, w) && between(o, w, from, to) && parts::good_pair(p)
 }
 
-#[tactic(auto, unfolding(rules::specs::WellFormed::good_place, rules::specs::WellFormed::good_body, rules::specs::Sets::all_hold))]
 fn good_get(from: u8, to: u8, tries: u16, c: u16) -> bool
     ensures { result ≡ good_place (sent from to (get tries c)) }
 {
     asked(c, from, to)
 }
 
-#[tactic(auto, unfolding(rules::specs::WellFormed::good_place, rules::specs::WellFormed::good_body, rules::specs::Sets::all_hold))]
 fn good_put(from: u8, to: u8, tries: u16, c: u16, p: Pair) -> bool
     ensures { result ≡ good_place (sent from to (put tries c p)) }
 {
-    asked(c, from, to) && super::parts::good_pair(p)
+    asked(c, from, to) && parts::good_pair(p)
 }
 
-#[tactic(auto, unfolding(rules::specs::WellFormed::good_place, rules::specs::WellFormed::good_body, rules::specs::Sets::all_hold))]
 fn good_view_reply(from: u8, to: u8, tries: u16, v: u16) -> bool
     ensures { result ≡ good_place (sent from to (view_reply tries v)) }
 {
     replied(from, to)
 }
 
-#[tactic(auto, unfolding(rules::specs::WellFormed::good_place, rules::specs::WellFormed::good_body, rules::specs::Sets::all_hold))]
 fn good_pair_reply(from: u8, to: u8, tries: u16, p: Pair) -> bool
     ensures { result ≡ good_place (sent from to (pair_reply tries p)) }
 {
-    super::parts::good_pair(p) && replied(from, to)
+    parts::good_pair(p) && replied(from, to)
 }
 
-#[tactic(auto, unfolding(rules::specs::WellFormed::good_place, rules::specs::WellFormed::good_body, rules::specs::Sets::all_hold))]
 fn good_ack(from: u8, to: u8, tries: u16) -> bool
     ensures { result ≡ good_place (sent from to (ack tries)) }
 {
@@ -193,9 +186,9 @@ impl Row<MESSAGE_WIDTH> for Message {
     }
 
     #[tactic(auto, using(crate::proofs::Messages::plain_place), unfolding(layout::specs::Image::place_bytes, state::specs::Meaning::message_of))]
-    fn put(self, row: &mut [u8]) {
+    fn put(&self, row: &mut [u8]) {
         let body = messages::plain(self.body);
-        image::put_message(row, 0, Message { body, ..self });
+        image::put_message(row, 0, Message { body, ..*self });
     }
 
     ghost wide = { λ m. length-place (waiting (message_of m)) };
@@ -208,11 +201,11 @@ fn good_place_row(w: &[u8], at: usize) -> bool
     requires { at + message_width ≤ length w.now }
     ensures { result ≡ place_good w.now at }
 {
-    let kind = rows::byte_at(w, at);
-    if kind == layout::NO_KIND {
-        return rows::is_zero(w, at, MESSAGE_WIDTH);
+    match rows::byte_at(w, at) {
+        layout::NO_KIND => rows::is_zero(w, at, MESSAGE_WIDTH),
+        layout::REQUEST..=layout::ACK => good_row::<Message, MESSAGE_WIDTH>(w, 0, at),
+        _ => false,
     }
-    kind <= layout::ACK && good_row::<Message, MESSAGE_WIDTH>(w, 0, at)
 }
 
 pub(crate) fn good_places(w: &[u8]) -> bool

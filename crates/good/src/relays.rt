@@ -12,6 +12,7 @@ ghost use Rattle.image.proofs.Widths.{length_head};
 ghost use Rattle.good.specs.Rows.{head_good, relay_good};
 ghost use Rattle.good.specs.Meant.{head_means};
 
+use super::parts;
 use super::row::{Row, good_row};
 use super::tables::good_table;
 use layout::{GENERATOR_WIDTH, HEAD_WIDTH, TRANSFER_WIDTH};
@@ -46,13 +47,13 @@ impl Row<HEAD_WIDTH> for Head {
 
     #[tactic(auto, unfolding(rules::specs::WellFormed::good_relay, rules::specs::Sets::all_hold, state::specs::Meaning::relay_of, rules::specs::WellFormed::good_generators, rules::specs::WellFormed::good_transfers, rules::specs::Sets::all, rules::specs::WellFormed::distinct))]
     fn is_good(self, s: u8) -> bool {
-        super::parts::good_pair(self.holds)
+        parts::good_pair(self.holds)
             && good_active(self.active, self.entered, self.view, s)
             && good_entered(self.entered, self.view)
     }
 
-    fn put(self, row: &mut [u8]) {
-        image::put_head(row, 0, self);
+    fn put(&self, row: &mut [u8]) {
+        image::put_head(row, 0, *self);
     }
 
     ghost wide = { λ h. length_head (relay_of h [] []) };

@@ -22,8 +22,8 @@ pub(crate) trait Row<const N: usize>: Copy {
     fn is_good(self, s: u8) -> bool
         ensures { result ≡ tested s self };
 
-    fn put(self, row: &mut [u8])
-        ensures { row.new ≡ placed row.old 0 (bytes self) };
+    fn put(&self, row: &mut [u8])
+        ensures { row.new ≡ placed row.old 0 (bytes self.now) };
 
     ghost wide: { (x : Self) → length (bytes x) ≡ N };
 
@@ -40,9 +40,9 @@ pub(crate) trait Named<const N: usize>: Row<N> {
 }
 
 // The bytes of `x` stand in `w` from `at` on.
-fn is_written<T: Row<N>, const N: usize>(x: T, w: &[u8], at: usize) -> bool
+fn is_written<T: Row<N>, const N: usize>(x: &T, w: &[u8], at: usize) -> bool
     requires { at + N ≤ length w.now }
-    ensures { result ≡ held w.now at (T.bytes x) }
+    ensures { result ≡ held w.now at (T.bytes x.now) }
 {
     let mut row = [0u8; N];
     x.put(&mut row);
@@ -54,5 +54,5 @@ pub(crate) fn good_row<T: Row<N>, const N: usize>(w: &[u8], s: u8, at: usize) ->
     ensures { result ≡ T.good w.now s at }
 {
     let x = T::read(w, at);
-    x.is_good(s) && is_written::<T, N>(x, w, at)
+    x.is_good(s) && is_written::<T, N>(&x, w, at)
 }

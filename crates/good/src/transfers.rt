@@ -10,6 +10,7 @@ ghost use Rattle.image.proofs.Widths.{length_transfer};
 ghost use Rattle.good.specs.Rows.{transfer_row_good, other_transfer};
 ghost use Rattle.good.specs.Meant.{transfer_means};
 
+use super::parts;
 use super::row::{Named, Row};
 use layout::TRANSFER_WIDTH;
 use state::Transfer;
@@ -19,7 +20,7 @@ use views::Sequence;
 fn good_sequence(o: u16, w: u16, q: Sequence) -> bool
     ensures { result ≡ (none (views_of q) || good_installed o w (views_of q)) }
 {
-    views::count(q) == 0 || super::parts::good_installed(o, w, q)
+    views::count(q) == 0 || parts::good_installed(o, w, q)
 }
 
 impl Row<TRANSFER_WIDTH> for Transfer {
@@ -38,14 +39,14 @@ impl Row<TRANSFER_WIDTH> for Transfer {
     #[tactic(auto, unfolding(rules::specs::WellFormed::good_transfer, rules::specs::Sets::all_hold, state::specs::Meaning::transfer_of))]
     fn is_good(self, s: u8) -> bool {
         views::is_member(self.new, s)
-            && super::parts::good_move(self.old, self.new)
+            && parts::good_move(self.old, self.new)
             && good_sequence(self.old, self.new, self.sequence)
-            && super::parts::are_members(self.senders, self.old)
-            && super::parts::good_pair(self.best)
+            && parts::are_members(self.senders, self.old)
+            && parts::good_pair(self.best)
     }
 
-    fn put(self, row: &mut [u8]) {
-        image::put_transfer(row, 0, self);
+    fn put(&self, row: &mut [u8]) {
+        image::put_transfer(row, 0, *self);
     }
 
     ghost wide = { λ t. length_transfer (transfer_of t) };
