@@ -4,7 +4,8 @@ use mathlib.Core.Path.{◌≡◌, refl, sym, ap, ◌∙◌}
 use mathlib.Core.Bool.{Bool, true, false, not, and-true, and_assoc}
 use mathlib.Core.List.{List, [], ◌∷◌, ◌++◌}
 use Prim.Native.Nat.{ℕ, zero, suc, ◌+◌, ◌*◌, ◌-◌, ◌≤◌, ◌<◌}
-use native.Mathlib.Nat.{add-zero, zero-add, add_assoc}
+use native.Mathlib.Nat.{add-mul, add-zero, zero-add, add_assoc}
+use native.Mathlib.Decide.{dec_lt}
 use native.Mathlib.Omega.{arith}
 use lib.Dec.{eqb, leb}
 use lib.ListN.{get_or-append, get_or-eq_default, length, get_or, take, drop, take-append-drop, length-drop}
@@ -22,7 +23,6 @@ use Rattle.rows.proofs.Tables.{splice-whole, length-zeros}
 use Rattle.rules.specs.Sets as sets
 use Rattle.rules.specs.WellFormed.{all_from, distinct}
 use Rattle.good.specs.Rows.{held, differs}
-use Rattle.good.proofs.Tests.{both_fail, both_pass, no, yes}
 
 -- ---- tests of a list
 
@@ -81,14 +81,6 @@ module _ {A : Type 0} where
 
 pub written : {l : List ℕ} (a b : List ℕ) → length b ≡ length a → l ≡ placed a 0 b → l ≡ b
 written a b e h = h ∙ placed_fits a b 0 (omega arith) ∙ splice-whole a b e
-
--- of a row that means y: what was read, x, is tested, written to a row of its own, and compared
-module _ {A : Type 0} (good : A → Bool) (enc : A → List ℕ) {x y : A} (is : x ≡ y) {r : Bool} (e : r ≡ good x) where
-  pub row_fails : (b : Bool) → not r ≡ true → false ≡ good y && b
-  row_fails b t = both_fail b (ap good (sym is) ∙ no e t)
-
-  pub row_answers : {h : Bool} {row : List ℕ} (a l : List ℕ) (o : ℕ) → not r ≡ false → length (enc x) ≡ length a → row ≡ placed a 0 (enc x) → h ≡ held l o row → h ≡ good y && held l o (enc y)
-  row_answers a l o t n w h = both_pass (ap good (sym is) ∙ yes e t) (h ∙ ap (held l o) (written a _ n w ∙ ap enc is))
 
 module _ (l : List ℕ) (o : ℕ) (b : List ℕ) where
   pub held_true : Holds l o b → held l o b ≡ true
@@ -178,3 +170,22 @@ module _ (l : List ℕ) (o : ℕ) where
 pub all_none_zero : (l : List ℕ) (o : ℕ) → all_zero l o 0 ≡ true
 unfolding all_zero
 all_none_zero l o = all_none (λ k. eqb (get_or l (o + k) 0) 0)
+
+-- where all is zero from place i on, it is from each later place on
+pub zero_later : (n : ℕ) (l : List ℕ) (o i k : ℕ) → i ≤ k → all_zero l (o + i * n) ((8 - i) * n) ≡ true → all_zero l (o + k * n) ((8 - k) * n) ≡ true
+unfolding all_zero
+zero_later n l o i k h e =
+    all_every ((8 - k) * n) _ (λ j p. rw (at j) (all_at ((8 - i) * n) ((k - i) * n + j) (λ m. eqb (get_or l (o + i * n + m) 0) 0) e (inside j p)))
+  where
+    times : (a b c : ℕ) → a ≡ b + c → a * n ≡ b * n + c * n
+    times a b c q = ap (λ (x : ℕ). x * n) q ∙ add-mul b c n
+
+    at : (j : ℕ) → o + k * n + j ≡ o + i * n + ((k - i) * n + j)
+    at j = omega (arith, times k i (k - i) (omega arith))
+
+    inside : (j : ℕ) → j < (8 - k) * n → (k - i) * n + j < (8 - i) * n
+    inside j p = go (dec_lt k 8)
+      where
+        go : Dec (k < 8) → (k - i) * n + j < (8 - i) * n
+        go (yes q) = omega (arith, times (8 - i) (k - i) (8 - k) (omega arith))
+        go (no q) = absurd (omega (arith, ap (λ (x : ℕ). x * n) (let z : 8 - k ≡ 0 = omega arith in z)))

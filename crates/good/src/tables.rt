@@ -1,6 +1,6 @@
 // A table of eight rows of a relay's: its generators, or its transfers.
-ghost use Rattle.std.specs.Prelude.{◌≡◌, ◌+◌, ◌*◌, ◌≤◌, ◌<◌, length};
-ghost use Rattle.rows.specs.Tests.{all};
+ghost use Rattle.std.specs.Prelude.{◌≡◌, not, ◌-◌, ◌+◌, ◌*◌, ◌≤◌, ◌<◌, length};
+ghost use Rattle.rows.specs.Tests.{all, all_zero};
 ghost use Rattle.rules.specs.Sets.{seat_count};
 ghost use Rattle.good.specs.Rows.{differs, place_filled, filled_good};
 
@@ -29,19 +29,23 @@ fn good_place<T: Named<N>, const N: usize>(w: &[u8], s: u8, at: usize, i: usize)
     other_names::<T, N>(w, at, i) && super::row::good_row::<T, N>(w, s, at + i * N)
 }
 
-#[tactic(auto, using(rows::proofs::All::passed_more, rows::proofs::All::passed_fails, rows::proofs::All::passed_all), unfolding(crate::specs::Rows::filled_good))]
 // Each place is filled and good, or all is zero from it on.
+#[tactic(auto, using(rows::proofs::Laws::run_inside))]
 pub(crate) fn good_table<T: Named<N>, const N: usize>(w: &[u8], s: u8, at: usize) -> bool
     requires { at + seat_count * N ≤ length w.now }
     ensures { result ≡ all seat_count (filled_good T.other T.good N w.now s at) }
 {
-    for i in 0..rules::SEATS {
-        if rows::is_zero(w, at + i * N, (rules::SEATS - i) * N) {
-            return true;
-        }
-        if !good_place::<T, N>(w, s, at, i) {
-            return false;
-        }
-    }
-    true
+    (0..rules::SEATS)
+        .take_while(
+            |i|
+                requires { (at + seat_count * N ≤ length w.now) × (i.now < seat_count) }
+                ensures { result ≡ not (all_zero w.entry.now (at + i.entry.now * N) ((seat_count - i.entry.now) * N)) }
+            { !rows::is_zero(w, at + *i * N, (rules::SEATS - *i) * N) },
+        )
+        .all(
+            |i|
+                requires { (at + seat_count * N ≤ length w.now) × (i < seat_count) }
+                ensures { result ≡ place_filled T.other T.good N w.entry.now s at i }
+            { good_place::<T, N>(w, s, at, i) },
+        )
 }
