@@ -1,7 +1,7 @@
 -- Tests of each number below n, as tests of lists, and of bytes that stand in a buffer. Assumes nothing.
 use Rattle.std.specs.Prelude.{◌&&◌}
 use mathlib.Core.Path.{◌≡◌, refl, sym, ap, ◌∙◌}
-use mathlib.Core.Bool.{Bool, true, false, not, and-true, and_assoc}
+use mathlib.Core.Bool.{Bool, true, false, and-true, and_assoc}
 use mathlib.Core.List.{List, [], ◌∷◌, ◌++◌}
 use Prim.Native.Nat.{ℕ, zero, suc, ◌+◌, ◌*◌, ◌-◌, ◌≤◌, ◌<◌}
 use native.Mathlib.Nat.{add-mul, add-zero, zero-add, add_assoc}

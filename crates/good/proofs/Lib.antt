@@ -1,4 +1,3 @@
-pub mod Tests
 pub mod Held
 pub mod Messages
 pub mod Rows

@@ -16,7 +16,6 @@ use Rattle.layout.specs.Layout.{message_width}
 use Rattle.layout.specs.Image.{place_bytes, row_bytes, row_at, place_in}
 use Rattle.layout.proofs.Zeros.{place-zeros}
 use Rattle.state.specs.declared.Body.{Body}
-use Rattle.state.specs.declared.Message.{Message}
 use Rattle.state.specs.Meaning.{body_of, message_of}
 use Rattle.messages.specs.Made.{made_with}
 use Rattle.messages.proofs.Made.{made_row, says_own}

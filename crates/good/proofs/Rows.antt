@@ -5,7 +5,6 @@ use mathlib.Core.Path.{◌≡◌, refl, sym, ap, ◌∙◌}
 use mathlib.Core.Bool.{Bool, true, false, and-eq-true_iff, or-true}
 use mathlib.Core.List.{List, [], ◌∷◌}
 use Prim.Native.Nat.{ℕ, zero, suc, ◌+◌, ◌*◌, ◌-◌, ◌≤◌, ◌<◌}
-use native.Mathlib.Nat.{le_trans, mul-le-mul_left, mul-le-mul_right}
 use native.Mathlib.Omega.{arith}
 use lib.Dec.{leb}
 use lib.ListN.{length, get_or, get_or-eq_default}
@@ -21,15 +20,10 @@ use Rattle.views.proofs.Truth.{same_truth}
 use Rattle.rules.specs.Sets.{those, all, all_hold}
 use Rattle.rules.specs.WellFormed.{distinct}
 use Rattle.rules.proofs.Hold.{hold_facts, hold_tests}
-use Rattle.layout.specs.Layout.{generator_width}
 use Rattle.layout.proofs.Fits.{RowsFit}
 use Rattle.layout.proofs.Rows.{rows_back}
 use Rattle.good.specs.Rows.{held, differs}
 use Rattle.good.proofs.Held.{all-tab, all_list, distinct-tab, all_same, held_true, held_fact, zero_part, zero_join, all_none_zero}
-
--- k rows of a table that is at most generator_width wide
-pub rows_inside : (k n w : ℕ) → k ≤ n → w ≤ generator_width → k * w ≤ n * generator_width
-rows_inside k n w h e = le_trans (mul-le-mul_right w h) (mul-le-mul_left n e)
 
 module _ {A : Type 0} (enc : A → List ℕ) (d : A) (w : ℕ) (wide : (x : A) → length (enc x) ≡ w) (blank : enc d ≡ zeros w)
     (filled : A → Bool) (unfilled : filled d ≡ false) (good : A → Bool) (differ : A → A → Bool)

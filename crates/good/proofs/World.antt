@@ -18,12 +18,13 @@ use Rattle.rows.proofs.Tables.{table-length, length-zeros}
 use Rattle.rows.proofs.Fields.{cat-holds}
 use Rattle.views.proofs.Truth.{same_truth}
 use Rattle.views.proofs.Among.{same_fact, same_self}
+use Rattle.rules.specs.Sets as sets
 use Rattle.rules.specs.Sets.{same, those, member, all_hold}
 use Rattle.rules.specs.State.{Generator, Transfer, Relay, Place, World, no_relay, no_desk, free}
 use Rattle.rules.specs.declared.Desk.{Desk}
 use Rattle.rules.specs.Generators.{fresh}
 use Rattle.rules.specs.Relays.{fresh_transfer}
-use Rattle.rules.specs.WellFormed.{is_view, is_pair, implies, same_bool, good_generator, good_transfer, other_view, other_move, good_generators, good_transfers, good_relay, good_desk, good_place, well_formed}
+use Rattle.rules.specs.WellFormed.{is_view, is_pair, distinct, implies, same_bool, good_generator, good_transfer, other_view, other_move, good_generators, good_transfers, good_relay, good_desk, good_place, well_formed}
 use Rattle.layout.specs.Layout.{head_width, generator_width, transfer_width, generators_width, transfers_width, relay_generators, relay_transfers, relay_width}
 use Rattle.layout.specs.Layout.{desk_width, message_width, world_desks, world_places, world_zeros, world_width, world_rest, relay_begin, desk_begin, place_begin}
 use Rattle.layout.specs.Image.{head_bytes, generator_bytes, transfer_bytes, relay_bytes, desk_bytes, place_bytes, image, generator_at, transfer_at, filled_generator, filled_transfer, relay_at, desk_at, row_at, place_in, world_at, good_bytes}
@@ -38,11 +39,19 @@ use Rattle.state.specs.Meaning.{relay_of}
 use Rattle.image.specs.Parts.{head_at}
 use Rattle.image.proofs.Parts.{relay_parts, head_alone}
 use Rattle.good.specs.Rows.{held, differs, head_good, generator_row_good, transfer_row_good, other_generator, other_transfer, place_filled, filled_good, desk_good, place_good, relay_good, rows_good}
-use Rattle.good.proofs.Tests.{no_generators, no_transfers}
 use Rattle.good.proofs.Held.{from-tab, all-tab, held_true, held_fact}
 use Rattle.good.proofs.Rows.{rows_same}
 
 -- ---- a relay's tables
+
+module _ (s : ℕ) where
+  no_generators : good_generators s [] ≡ true
+  unfolding good_generators all_hold sets.all distinct
+  no_generators = refl
+
+  no_transfers : good_transfers s [] ≡ true
+  unfolding good_transfers all_hold sets.all distinct
+  no_transfers = refl
 
 module _ (l : List ℕ) (s o : ℕ) where
   generators_same : o + generators_width ≤ length l → let gs = those filled_generator (tab 8 (λ k. generator_at l (o + k * generator_width))) in
@@ -72,7 +81,7 @@ module _ (s : ℕ) where
       → good_relay s (relay_of h gs ts) ≡ good_relay s (relay_of h [] []) && (good_generators s gs && good_transfers s ts)
   unfolding good_relay relay_of
   relay_good_lem h gs ts =
-      rw (no_generators, no_transfers)
+      rw (no_generators s, no_transfers s)
       (hold_pair (is_view h.view ∷ is_view h.known ∷ is_view h.pending ∷ is_pair h.holds ∷ implies h.active (h.entered && member h.view s)
       ∷ same_bool h.entered (not (eqb h.view 0)) ∷ []) (good_generators s gs) (good_transfers s ts))
 

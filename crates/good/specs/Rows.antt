@@ -1,6 +1,6 @@
 -- What the code tests of each row of a buffer: that what it means is good, and that its bytes are the bytes of that, so that unused room is zero.
 -- Assumes nothing.
-use Rattle.std.specs.Prelude.{Bool, true, false, List, [], ℕ, ◌+◌, ◌*◌, ◌-◌, eqb, length, get_or, ◌&&◌, ◌||◌}
+use Rattle.std.specs.Prelude.{Bool, List, [], ℕ, ◌+◌, ◌*◌, ◌-◌, eqb, length, get_or, ◌&&◌, ◌||◌}
 use Rattle.rows.specs.Tests.{all, all_zero}
 use Rattle.rules.specs.Sets.{relay_count, desk_count, place_count, seat_count}
 use Rattle.rules.specs.Messages.{Body}

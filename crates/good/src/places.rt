@@ -65,7 +65,6 @@ fn asks_to_join(s: u8, u: u16, c: u16) -> bool
 }
 
 // u is -s, and s a member of c.
-#[tactic(auto, using(crate::proofs::Tests::leaves_is))]
 fn asks_to_leave(s: u8, u: u16, c: u16) -> bool
     requires { s < 8 }
     ensures { result ≡ (eqb u (leaves s) && member c s) }

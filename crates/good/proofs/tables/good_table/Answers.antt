@@ -1,5 +1,4 @@
 -- `good::tables::good_table` meets its contract: where all is zero from a place on, it is from each later one on. Assumes nothing.
-use mathlib.Core.Path.{refl}
 use Prim.Native.Nat.{◌+◌, ◌*◌, ◌-◌}
 use borrow.Author.Rules.{rules}
 use Rattle.rows.specs.Tests.{all_zero}
