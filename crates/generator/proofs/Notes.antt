@@ -1,41 +1,39 @@
 -- Laws of the notes: the set of those that agree is built from the highest. Assumes nothing.
-use mathlib.Core.Path.{◌≡◌, ap, ◌∙◌}
+use mathlib.Core.Path.{◌≡◌, refl, ◌∙◌}
 use mathlib.Core.Bool.{Bool}
 use mathlib.Core.List.{List, [], ◌∷◌, map}
-use Prim.Native.Nat.{ℕ, suc, ◌+◌, ◌-◌, ◌*◌, ◌^◌, ◌≤◌, ◌<◌}
+use Prim.Native.Nat.{ℕ, ◌+◌, ◌*◌, ◌%◌, ◌^◌, ◌≤◌, ◌<◌}
 use native.Mathlib.Nat.{pow-suc, lt_of_lt_of_le}
 use native.Mathlib.Omega.{arith}
-use lib.ListN.{length, get_or, drop, length-drop, length-map, get_or-map, drop_of_length-le}
+use lib.ListN.{length, length-map}
 use lib.Pow.{pow_mono}
-use lib.Seq.{drop-cons}
 use mir.Val.{bool_byte}
+use Rattle.std.proofs.Common.{reverse, bit_or}
+use Rattle.std.specs.List.{fold}
+use Rattle.std.proofs.lemmas.Grind.{reverse_onto, or_after_shift}
+use Rattle.std.proofs.lemmas.List.Sums.{fold-append}
 use Rattle.views.specs.declared.Sequence.{Sequence}
 use Rattle.views.specs.Row.{views_of}
 use Rattle.rules.specs.Sets.{same}
-use Rattle.rules.specs.Generators.{agreeing}
+use Rattle.rules.specs.Generators.{one_if, agreeing}
 use Rattle.rules.proofs.Lists.{byte-is, byte_le}
 
--- ---- who agrees
+-- one note more: its bit goes below those of the notes above it
+abbrev pub one_more : List ℕ → ℕ → Sequence → ℕ
+one_more q mask note = bit_or (mask * 2 % 256) (bool_byte (same (views_of note) q))
 
-noted_lt : (ls : List (List ℕ)) (q : List ℕ) → agreeing ls q < 2 ^ length ls
+agreeing_lt : (ls : List (List ℕ)) (q : List ℕ) → agreeing ls q < 2 ^ length ls
 unfolding agreeing
-noted_lt [] q = omega arith
-noted_lt (l ∷ ls) q = omega (arith, noted_lt ls q, byte-is (same l q), byte_le (same l q), pow-suc 2 (length ls))
+agreeing_lt [] q = omega arith
+agreeing_lt (l ∷ ls) q = omega (arith, agreeing_lt ls q, byte-is (same l q), byte_le (same l q), pow-suc 2 (length ls))
 
-module _ (ns : List Sequence) (q : List ℕ) (full : length ns ≡ 8) where
-  pub noted_start : 0 ≡ agreeing (drop 8 (map views_of ns)) q
-  unfolding agreeing
-  noted_start = rw (drop_of_length-le (map views_of ns) {i = 8} (simp length-map (omega arith)))
+low_bit : (mask : ℕ) (b : Bool) → mask < 128 → bit_or (mask * 2 % 256) (bool_byte b) ≡ mask * 2 + one_if b
+low_bit mask b h = or_after_shift mask 2 256 (bool_byte b) refl (omega (arith, byte_le b)) (omega arith) ∙ rw (byte-is b)
 
-  pub noted_small : (i : ℕ) → 0 < i → agreeing (drop i (map views_of ns)) q < 128
-  noted_small i pos = lt_of_lt_of_le (noted_lt (drop i (map views_of ns)) q) (pow_mono {j = 7} (simp (length-drop, length-map) (omega arith)))
-
-  pub noted_step : (i : ℕ) (d : Sequence) (b : Bool) → 0 < i → i ≤ 8 → b ≡ same (views_of (get_or ns (i - 1) d)) q
-      → agreeing (drop i (map views_of ns)) q * 2 + bool_byte b ≡ agreeing (drop (i - 1) (map views_of ns)) q
-  unfolding agreeing
-  noted_step i d b pos h e =
-      let j : ℕ = i - 1 in
-      let ij : i ≡ suc j = omega arith in
-      let l : j < length (map views_of ns) = simp length-map (omega arith) in
-      ap (λ (k : ℕ). agreeing (drop k (map views_of ns)) q * 2 + bool_byte b) ij
-      ∙ rw (drop-cons (map views_of ns) j (views_of d) l, get_or-map views_of ns j d, ← e, byte-is b)
+pub agreeing-fold : (ns : List Sequence) (q : List ℕ) → length ns ≤ 8 → fold (one_more q) 0 (reverse ns) ≡ agreeing (map views_of ns) q
+unfolding agreeing
+agreeing-fold [] q h = refl
+agreeing-fold (n ∷ ns) q h =
+    let small : agreeing (map views_of ns) q < 128 =
+    lt_of_lt_of_le (agreeing_lt (map views_of ns) q) (pow_mono {j = 7} (simp length-map (omega arith))) in
+    rw (reverse_onto ns n [], fold-append (one_more q) 0 (reverse ns) (n ∷ []), agreeing-fold ns q (omega arith)) (low_bit _ _ small)

@@ -1,5 +1,5 @@
 // The rules at one generator: Propose, Proposal, Converged. Document 01, "Delivery at a relay".
-#![tactic(auto)]
+#![tactic(auto, unfolding(crate::specs::Rows::fresh_row, crate::specs::Rows::noted_row))]
 
 ghost use Rattle.std.specs.Prelude.{◌≡◌, [], ◌∷◌};
 ghost use Rattle.views.specs.Row.{views_of};
@@ -16,7 +16,9 @@ pub fn fresh(v: u16) -> Generator
     ensures { result ≡ fresh_row v }
 {
     let none = views::empty();
-    let notes = Notes { of: [none; 8] };
+    let notes = Notes {
+        of: [none; rules::RELAYS],
+    };
     Generator {
         view: v,
         own: none,
@@ -31,12 +33,12 @@ pub fn fresh(v: u16) -> Generator
 pub fn noted(n: Notes, from: u8, q: Sequence) -> Notes
     ensures { result ≡ noted_row n from q }
 {
-    if 8 <= from {
-        return n;
-    }
+    // (`get_mut` would tell a proof nothing of the notes that it leaves.)
     let at = from as usize;
     let mut r = n;
-    r.of[at] = q;
+    if at < r.of.len() {
+        r.of[at] = q;
+    }
     r
 }
 
@@ -44,14 +46,9 @@ pub fn noted(n: Notes, from: u8, q: Sequence) -> Notes
 pub fn agreeing(n: Notes, q: Sequence) -> u8
     ensures { result ≡ rules.agreeing (notes_of n) (views_of q) }
 {
-    let mut mask: u8 = 0;
-    let mut s: usize = 8;
-    while 0 < s {
-        s -= 1;
-        let note = n.of[s];
-        mask = mask * 2 + views::same(note, q) as u8;
-    }
-    mask
+    n.of.iter()
+        .rev()
+        .fold(0, |mask, note| mask << 1 | views::same(*note, q) as u8)
 }
 
 pub fn agree(v: u16, n: Notes, q: Sequence) -> bool
@@ -64,7 +61,7 @@ fn quiet(next: Generator) -> Turn
     ensures { turn_of result ≡ turned (turn (generator_of next) []) }
 {
     Turn {
-        next: next,
+        next,
         sends: messages::nothing_sent(),
     }
 }
@@ -73,7 +70,7 @@ fn sends(next: Generator, s: Sending) -> Turn
     ensures { turn_of result ≡ turned (turn (generator_of next) (sending_of s ∷ [])) }
 {
     Turn {
-        next: next,
+        next,
         sends: messages::one_sent(s),
     }
 }
@@ -82,65 +79,59 @@ fn sends(next: Generator, s: Sending) -> Turn
 pub fn proposes(g: Generator, q: Sequence) -> Turn
     ensures { turn_of result ≡ turned (rules.proposes (generator_of g) (views_of q)) }
 {
-    let own = g.own;
-    if 0 < views::count(own) {
+    if 0 < views::count(g.own) {
         return quiet(g);
     }
     let v = g.view;
-    let mut next = g;
-    next.own = q;
-    sends(next, messages::to_members(v, messages::proposal(v, q)))
+    sends(
+        Generator { own: q, ..g },
+        messages::to_members(v, messages::proposal(v, q)),
+    )
 }
 
 // "Then, if own differs from converged and a quorum of v's last noted proposals equal own, converged becomes own and goes out to all members."
 fn settles(g: Generator) -> Turn
     ensures { turn_of result ≡ turned (rules.settles (generator_of g)) }
 {
-    let own = g.own;
-    let converged = g.converged;
-    if views::same(own, converged) {
-        return quiet(g);
-    }
     let v = g.view;
-    let proposals = g.proposals;
-    if !agree(v, proposals, own) {
+    let own = g.own;
+    if views::same(own, g.converged) || !agree(v, g.proposals, own) {
         return quiet(g);
     }
-    let mut next = g;
-    next.converged = own;
-    sends(next, messages::to_members(v, messages::converged(v, own)))
+    sends(
+        Generator {
+            converged: own,
+            ..g
+        },
+        messages::to_members(v, messages::converged(v, own)),
+    )
 }
 
 // "note it for the sender. If q has a view that own lacks: [..] own becomes [..]"
 fn merged(g: Generator, from: u8, q: Sequence) -> Generator
     ensures { generator_of result ≡ merged_in_row (generator_of g) from (views_of q) }
 {
-    let own = g.own;
-    let converged = g.converged;
-    let proposals = g.proposals;
-    let mut r = g;
-    r.own = views::heard(own, converged, q);
-    r.proposals = noted(proposals, from, q);
-    r
+    Generator {
+        own: views::heard(g.own, g.converged, q),
+        proposals: noted(g.proposals, from, q),
+        ..g
+    }
 }
 
 // "Proposal(v, q)"
 pub fn proposal_heard(g: Generator, from: u8, q: Sequence) -> Turn
     ensures { turn_of result ≡ turned (heard_in_row (generator_of g) from (views_of q)) }
 {
-    let old = g.own;
     let v = g.view;
-    let m = merged(g, from, q);
-    let settled = settles(m);
-    if !views::lacks(q, old) {
+    let heard = merged(g, from, q);
+    let settled = settles(heard);
+    if !views::lacks(q, g.own) {
         return settled;
     }
-    let own = m.own;
-    let next = settled.next;
-    let then = settled.sends;
+    let sent = messages::to_members(v, messages::proposal(v, heard.own));
     Turn {
-        next: next,
-        sends: messages::sent_before(messages::to_members(v, messages::proposal(v, own)), then),
+        sends: messages::sent_before(sent, settled.sends),
+        ..settled
     }
 }
 
@@ -150,18 +141,14 @@ pub fn converged_heard(g: Generator, from: u8, q: Sequence) -> Turn
     ensures { turn_of result ≡ turned (rules.converged_heard (generator_of g) from (views_of q)) }
 {
     let v = g.view;
-    let old = g.convergences;
-    let raised = g.raised;
-    let convergences = noted(old, from, q);
-    let mut next = g;
-    next.convergences = convergences;
-    if !agree(v, convergences, q) {
-        return quiet(next);
+    let convergences = noted(g.convergences, from, q);
+    let heard = Generator { convergences, ..g };
+    if !agree(v, convergences, q) || views::same(q, g.raised) {
+        return quiet(heard);
     }
-    if views::same(q, raised) {
-        return quiet(next);
-    }
-    next.raised = q;
     let w = views::least(q);
-    sends(next, messages::to_both(v, w, messages::install(v, w, q)))
+    sends(
+        Generator { raised: q, ..heard },
+        messages::to_both(v, w, messages::install(v, w, q)),
+    )
 }

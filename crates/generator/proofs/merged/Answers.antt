@@ -8,4 +8,4 @@ use Rattle.generator.proofs.merged.Goals as goal
 
 pub returns : goal.returns
 unfolding generator_of merged_in_row hears with_own
-returns c = rw (held _ _ c.heard-r.ensures, noted_means _ _ _ c.noted-r.ensures)
+returns c = rw (held _ _ c.heard.ensures, noted_means _ _ _ c.noted.ensures)

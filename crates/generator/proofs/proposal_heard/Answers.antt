@@ -1,10 +1,7 @@
 -- `generator::proposal_heard` meets its contract. Assumes nothing.
-use mathlib.Core.Path.{◌≡◌, refl, sym, ap, ◌∙◌}
-use mathlib.Core.Bool.{true, false}
+use mathlib.Core.Path.{◌≡◌, refl, ap, ◌∙◌}
 use mathlib.Core.List.{◌∷◌}
-use borrow.Author.Tests.{not-true, not-false}
 use Rattle.views.specs.Row.{views_of}
-use Rattle.rules.specs.Sets.{lacks}
 use Rattle.rules.specs.Messages.{Sending, proposal, to_members}
 use Rattle.rules.specs.State.{Generator}
 use Rattle.rules.specs.Generators.{settles}
@@ -17,20 +14,17 @@ use Rattle.generator.proofs.proposal_heard.Goals as goal
 
 pub returns-then-not-lacks : goal.returns-then-not-lacks
 unfolding heard_in_row hears_in_row turned generator_of
-returns-then-not-lacks c =
-    let e : lacks (views_of c.args.q) (views_of c.args.g.own) ≡ false = sym c.lacks.ensures ∙ not-true _ c.if-not-lacks.true-raw in
-    c.settles-settled.ensures ∙ rw (c.merged-m.ensures, e)
+returns-then-not-lacks c = c.settles-settled.ensures ∙ rw (c.merged-heard.ensures, ← c.if-not-lacks.ensures)
 
 pub returns : goal.returns
 unfolding heard_in_row hears_in_row turn_of turned generator_of
 returns c =
-    let e : lacks (views_of c.args.q) (views_of c.args.g.own) ≡ true = sym c.lacks.ensures ∙ not-false _ c.if-not-lacks.false-raw in
     let h : Generator = merged_in_row (generator_of c.args.g) c.args.from (views_of c.args.q) in
-    let rest : turn_of c.settles-settled.result ≡ turned (settles h) = c.settles-settled.ensures ∙ rw c.merged-m.ensures in
-    let sent : sending_of c.to_members.result ≡ to_members c.args.g.view (proposal c.args.g.view h.own) =
-    sent_says c.to_members.ensures
-    (made_says _ _ c.proposal.ensures refl ∙ ap (λ (k : Generator). proposal c.args.g.view k.own) c.merged-m.ensures) in
+    let rest : turn_of c.settles-settled.result ≡ turned (settles h) = c.settles-settled.ensures ∙ rw c.merged-heard.ensures in
+    let sent : sending_of c.to_members-sent.result ≡ to_members c.args.g.view (proposal c.args.g.view h.own) =
+    sent_says c.to_members-sent.ensures
+    (made_says _ _ c.proposal.ensures refl ∙ ap (λ (k : Generator). proposal c.args.g.view k.own) c.merged-heard.ensures) in
     let ss = (settles h).sendings in
     let all : sendings_of c.sent_before.result ≡ bounded (to_members c.args.g.view (proposal c.args.g.view h.own) ∷ ss) =
     before_means _ _ ss c.sent_before.ensures (ap (λ (u : Turned). u.sendings) rest) ∙ ap (λ (s : Sending). bounded (s ∷ ss)) sent in
-    rw e (λ i. record { next = (rest i).next; sendings = all i })
+    rw (← c.if-not-lacks.ensures) (λ i. record { next = (rest i).next; sendings = all i })
