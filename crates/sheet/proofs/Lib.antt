@@ -1,5 +1,5 @@
 pub mod Reading
-pub mod Checking
+pub mod Fronts
 pub mod Walk
 pub mod Writing
 pub mod Slices

@@ -2,17 +2,19 @@
 use Rattle.std.specs.Prelude.{if◌then◌else◌}
 use mathlib.Core.Path.{◌≡◌, refl, sym, ap, ◌∙◌}
 use mathlib.Core.Bool.{Bool, true, false, not, ◌||◌}
-use mathlib.Core.List.{List, [], ◌∷◌, ◌++◌, append-nil}
-use Prim.Native.Nat.{ℕ, zero, suc, ◌+◌, ◌-◌, ◌*◌, ◌≤◌, ◌<◌, min}
+use mathlib.Core.List.{List, [], ◌∷◌, map, ◌++◌, append-nil}
+use Prim.Native.Nat.{ℕ, ◌+◌, ◌-◌, ◌*◌, ◌≤◌, ◌<◌}
 use native.Mathlib.Nat.{zero-add}
 use native.Mathlib.Numerals.{add-one}
 use native.Mathlib.Omega.{arith}
 use mir.Syntax.{w8}
 use mir.Val.{Fits}
 use lib.Dec.{eqb, ltb}
-use lib.ListN.{length, get_or, drop, length-drop, drop_of_length-le}
+use lib.ListN.{length, get_or, drop, length-drop, length-map, get_or-map, drop_of_length-le}
 use lib.Seq.{drop-cons}
 use borrow.Author.Tests.{ltb-false, eqb-true, eqb-false, lt-ltb, le-ltb, ne_eqb, not-false}
+use Rattle.std.specs.List.{zip}
+use Rattle.std.proofs.lemmas.Slice.Zip.{length-zip}
 use Rattle.views.proofs.Truth.{neither_true}
 use Rattle.rows.specs.Bytes.{splice, placed, bytes_of, fields_of}
 use Rattle.rows.proofs.Laws.{placed-length, placed_nil, placed_more, placed_fits}
@@ -25,21 +27,19 @@ use Rattle.sheet.specs.Writing.{listed, unequal, ruled, ruled_size, buffer_of}
 
 -- ---- the list
 
-pub listed-length : (ks is vs : List ℕ) → length (listed ks is vs) ≡ min (length ks) (min (length is) (length vs))
-unfolding listed
-listed-length [] is vs = omega arith
-listed-length (k ∷ ks) [] vs = omega arith
-listed-length (k ∷ ks) (i ∷ is) [] = omega arith
-listed-length (k ∷ ks) (i ∷ is) (v ∷ vs) = omega (arith, listed-length ks is vs)
+-- it is what the three slices, zipped, say
+three : (ℕ × ℕ) × ℕ → Step
+three p = record { kind = p.0.0; id = p.0.1; value = p.1 }
 
-listed_at : (i : ℕ) (ks ids vs : List ℕ) (d : Step) → i < length (listed ks ids vs)
-    → get_or (listed ks ids vs) i d ≡ record { kind = get_or ks i 0; id = get_or ids i 0; value = get_or vs i 0 }
-unfolding listed
-listed_at i [] ids vs d h = absurd (omega arith)
-listed_at i (k ∷ ks) [] vs d h = absurd (omega arith)
-listed_at i (k ∷ ks) (n ∷ ids) [] d h = absurd (omega arith)
-listed_at zero (k ∷ ks) (n ∷ ids) (v ∷ vs) d h = refl
-listed_at (suc i) (k ∷ ks) (n ∷ ids) (v ∷ vs) d h = listed_at i ks ids vs d (omega arith)
+listed_zip : (ks is vs : List ℕ) → listed ks is vs ≡ map three (zip (zip ks is) vs)
+unfolding listed three
+listed_zip [] is vs = refl
+listed_zip (k ∷ ks) [] vs = refl
+listed_zip (k ∷ ks) (i ∷ is) [] = refl
+listed_zip (k ∷ ks) (i ∷ is) (v ∷ vs) = ap (λ (l : List Step). record { kind = k; id = i; value = v } ∷ l) (listed_zip ks is vs)
+
+pub zipped-length : (ks is vs : List ℕ) → length (listed ks is vs) ≡ length (zip (zip ks is) vs)
+zipped-length ks is vs = ap length (listed_zip ks is vs) ∙ length-map (zip (zip ks is) vs) three
 
 -- ---- the bytes of a step, as they are written
 
@@ -88,11 +88,17 @@ left_step {f} {steps} {l₀} {l} {o} {i} t k h below room e q =
       is = rw (q, ← step-length f k) (both ∙ ap (λ (r : List ℕ). placed l o r) (sym next) ∙ h.is);
     }
 
-pub left_more : {f : Form} (ks ids vs : List ℕ) {l₀ l : List ℕ} {o i : ℕ} (t : List ℕ) → Left f (listed ks ids vs) l₀ l o i → i < length (listed ks ids vs)
-    → sheet_width f (length (listed ks ids vs)) ≤ length l₀
-    → t ≡ placed l o (step_bytes f (record { kind = get_or ks i 0; id = get_or ids i 0; value = get_or vs i 0 }))
+pub left_more : {f : Form} (ks ids vs : List ℕ) {l₀ l : List ℕ} {o i : ℕ} (t : List ℕ) → Left f (listed ks ids vs) l₀ l o i → (p : (ℕ × ℕ) × ℕ)
+    → (i < length (zip (zip ks ids) vs)) × (p ≡ get_or (zip (zip ks ids) vs) i p) → sheet_width f (length (listed ks ids vs)) ≤ length l₀
+    → t ≡ placed l o (step_bytes f (record { kind = p.0.0; id = p.0.1; value = p.1 }))
     → Left f (listed ks ids vs) l₀ t (o + step_width f) (i + 1)
-left_more ks ids vs {i = i} t h below room e = left_step t _ h below room (listed_at i ks ids vs _ below) e
+unfolding three
+left_more ks ids vs {i = i} t h p turn room e =
+    let all : List ((ℕ × ℕ) × ℕ) = zip (zip ks ids) vs in
+    let below : i < length (listed ks ids vs) = omega (arith, zipped-length ks ids vs, turn.0) in
+    let is : get_or (listed ks ids vs) i (three p) ≡ three p =
+    ap (λ (l : List Step). get_or l i (three p)) (listed_zip ks ids vs) ∙ get_or-map three all i p ∙ ap three (sym turn.1) in
+    left_step t (three p) h below room is e
 
 pub left-none : {f : Form} {steps : List Step} {l₀ l : List ℕ} {o i : ℕ} → Left f steps l₀ l o i → length steps ≤ i
     → l ≡ placed l₀ (header_width f) (steps_bytes f steps)
@@ -118,7 +124,9 @@ same_lengths kinds ids values e =
     (eqb-true (length ids) (length kinds) (not-false _ p.0), eqb-true (length values) (length kinds) (not-false _ p.1))
 
 equal_length : (kinds ids values : List ℕ) → unequal kinds ids values ≡ false → length (listed kinds ids values) ≡ length kinds
-equal_length kinds ids values e = let s = same_lengths kinds ids values e in omega (arith, listed-length kinds ids values, s.0, s.1)
+equal_length kinds ids values e =
+    let s = same_lengths kinds ids values e in
+    omega (arith, zipped-length kinds ids values, length-zip (zip kinds ids) values, length-zip kinds ids, s.0, s.1)
 
 module _ (b : List ℕ) (mask : ℕ) (kinds ids values : List ℕ) where
   pub bad : unequal kinds ids values || eqb mask 0 || ltb version1.most_steps (length kinds) ≡ true → ruled b mask kinds ids values ≡ bad_sheet

@@ -1,9 +1,9 @@
 -- What writing a sheet answers and leaves in the buffer, by the rules of crate `rules`, Sheets. Assumes nothing.
-use Rattle.std.specs.Prelude.{Bool, not, List, [], ◌∷◌, map, ℕ, eqb, length, if◌then◌else◌, ◌||◌}
+use Rattle.std.specs.Prelude.{Bool, not, List, [], ◌∷◌, map, ℕ, Result, Ok, Err, eqb, length, if◌then◌else◌, ◌||◌}
+use Rattle.rules.specs.Coded as rules
+use Rattle.rules.specs.declared.Refusal.{Refusal}
 use Rattle.rules.specs.declared.Step.{Step}
 use Rattle.rules.specs.Sheets.{version1, Written as Ruling, bad_sheet, no_room, wrote, sheet_bytes, written}
-use Rattle.sheet.specs.declared.Written.{Written}
-use Rattle.sheet.specs.declared.Written.TheVariants.{Done, BadSheet, NoRoom}
 
 -- a list of steps in three of one length: of their kinds, their ids and their values
 unfoldable pub listed : List ℕ → List ℕ → List ℕ → List Step
@@ -44,13 +44,11 @@ buffer_of b bad_sheet = b
 buffer_of b no_room = b
 buffer_of b (wrote l) = l
 
--- document 01's number for each case of the code's answer: 0 done, 8 NO ROOM, 9 BAD SHEET; and how many bytes the sheet has
-abbrev pub number_of : Written → ℕ
-number_of (Done n) = 0
-number_of NoRoom = 8
-number_of BadSheet = 9
+-- document 01's number for each case of the code's answer, 0 for done; and how many bytes the sheet has
+abbrev pub number_of : Result ℕ Refusal → ℕ
+number_of (Ok n) = 0
+number_of (Err x) = rules.number_of x
 
-abbrev pub size_of : Written → ℕ
-size_of (Done n) = n
-size_of NoRoom = 0
-size_of BadSheet = 0
+abbrev pub size_of : Result ℕ Refusal → ℕ
+size_of (Ok n) = n
+size_of (Err x) = 0

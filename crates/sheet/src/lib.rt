@@ -1,16 +1,16 @@
 // Sheets: bytes are checked, read from the front one step at a time, and written. Document 01, "Sheets and the printed record".
 #![tactic(auto)]
 
-ghost use Rattle.std.specs.Prelude.{◌≡◌, ◌≤◌, length, drop};
+ghost use Rattle.std.specs.Prelude.{◌≡◌, ◌≤◌, ◌/◌, ◌||◌, eqb, ltb, length};
 ghost use Rattle.rows.specs.Bytes.{placed};
-ghost use Rattle.rules.specs.Sheets.{version1, marked, header_width, header_bytes, all_zeros_in, step_bytes, steps_bytes, sheet_width, number};
+ghost use Rattle.rules.specs.Sheets.{version1, marked, header_width, header_bytes, is_bad_sheet, all_zeros_in, step_bytes, steps_bytes, step_width, sheet_width, number};
 ghost use Rattle.sheet.specs.Reading.{check_of, front_of, step_at, after_of};
-ghost use Rattle.sheet.specs.Writing.{listed, ruled, ruled_size, buffer_of, number_of, size_of};
+ghost use Rattle.sheet.specs.Writing.{listed, unequal, ruled, ruled_size, buffer_of, number_of, size_of};
 
 use rows::{byte_at, has_room, is_zero, put_fields, read_u16, read_u32};
-use rules::Step;
+use rules::{Refusal, Step};
 
-pub mod reader; // a sheet's bytes and a position, moved on step by step
+pub mod reader; // a sheet's bytes and a position: the iterator of its steps
 
 // The header: "the three bytes `ARS`, version 0x0001 [..], one byte of start mask". Where its version and its mask stand, and the first step.
 const MARK: [u8; 3] = [65, 82, 83];
@@ -35,87 +35,52 @@ const VALUE_AT: usize = 4;
 // "over 8,000 steps"
 const MOST: usize = 8000;
 
-#[derive(Clone, Copy)]
+// What an accepted sheet says before its steps, and how many those are.
+#[derive(Clone, Copy, PartialEq, Eq, Debug)]
 pub struct Sheet {
-    pub bad: bool,
     pub mask: u8,
     pub steps: usize,
 }
 
-#[derive(Clone, Copy)]
-pub enum Found {
-    At(Step),
-    End,
-}
-
-#[derive(Clone, Copy)]
-pub enum Written {
-    // How many bytes the sheet has.
-    Done(usize),
-    BadSheet,
-    NoRoom,
-}
-
-const REFUSED: Sheet = Sheet {
-    bad: true,
-    mask: 0,
-    steps: 0,
-};
-
 fn is_marked(b: &[u8]) -> bool
     ensures { result ≡ marked b.now }
 {
-    (byte_at(b, 0) == MARK[0]) & (byte_at(b, 1) == MARK[1]) & (byte_at(b, 2) == MARK[2])
+    b.starts_with(&MARK)
 }
 
-// "non-zero in the two bytes", of each step
-fn is_blank(b: &[u8], steps: usize) -> bool
-    requires { sheet_width version1 steps ≤ length b.now }
-    ensures { result ≡ all_zeros_in version1 steps (drop (header_width version1) b.now) }
+// "non-zero in the two bytes", of each step: in what is past the header
+fn is_blank(steps: &[u8]) -> bool
+    ensures { result ≡ all_zeros_in version1 (length steps.now / step_width version1) steps.now }
 {
-    let mut at = HEAD;
-    let mut left = steps;
-    while 0 < left {
-        if !is_zero(b, at + ZEROS_AT, ZEROS) {
-            return false;
-        }
-        at += STEP;
-        left -= 1;
-    }
-    true
+    let (whole, _) = steps.as_chunks::<STEP>();
+    whole.iter().all(|step| is_zero(step, ZEROS_AT, ZEROS))
 }
 
 // "BAD SHEET: under six bytes, wrong mark, version, mask 0, a part step, non-zero in the two bytes, over 8,000 steps."
-pub fn check(b: &[u8]) -> Sheet
+#[tactic(auto, unfolding(rules::specs::Sheets::form_of))]
+fn is_bad(b: &[u8]) -> bool
+    ensures { result ≡ is_bad_sheet b.now }
+{
+    b.len() < HEAD
+        || !is_marked(b)
+        || read_u16(b, VERSION_AT) != VERSION
+        || byte_at(b, MASK_AT) == 0
+        || (b.len() - HEAD) % STEP != 0
+        || !is_blank(&b[HEAD..])
+        || MOST < (b.len() - HEAD) / STEP
+}
+
+#[tactic(auto, unfolding(rules::specs::Sheets::form_of, crate::specs::Reading::check_of))]
+pub fn check(b: &[u8]) -> Result<Sheet, Refusal>
     ensures { result ≡ check_of b.now }
 {
-    if b.len() < HEAD {
-        return REFUSED;
-    }
-    if !is_marked(b) {
-        return REFUSED;
-    }
-    if read_u16(b, VERSION_AT) != VERSION {
-        return REFUSED;
-    }
-    let mask = byte_at(b, MASK_AT);
-    if mask == 0 {
-        return REFUSED;
-    }
-    if (b.len() - HEAD) % STEP != 0 {
-        return REFUSED;
-    }
-    let steps = (b.len() - HEAD) / STEP;
-    if !is_blank(b, steps) {
-        return REFUSED;
-    }
-    if MOST < steps {
-        return REFUSED;
-    }
-    Sheet {
-        bad: false,
-        mask,
-        steps,
+    if is_bad(b) {
+        Err(Refusal::BadSheet)
+    } else {
+        Ok(Sheet {
+            mask: byte_at(b, MASK_AT),
+            steps: (b.len() - HEAD) / STEP,
+        })
     }
 }
 
@@ -126,27 +91,28 @@ fn front(b: &[u8]) -> usize
     HEAD
 }
 
-// The step at a position. Every sheet has the steps of version 1, so their width is a constant.
-pub fn step_at(b: &[u8], at: usize) -> Found
+// The step at a position, if one is left there. Every sheet has the steps of version 1, so their width is a constant.
+pub fn step_at(b: &[u8], at: usize) -> Option<Step>
     ensures { result ≡ step_at b.now at }
 {
-    if !has_room(b.len(), at, STEP) {
-        return Found::End;
-    }
-    let kind = byte_at(b, at);
-    let id = byte_at(b, at + 1);
-    let value = read_u32(b, at + VALUE_AT);
-    Found::At(Step { kind, id, value })
+    let step = b.get(at..)?.first_chunk::<STEP>()?;
+    Some(Step {
+        kind: step[0],
+        id: step[1],
+        value: read_u32(step, VALUE_AT),
+    })
 }
 
 // The position past it; at the end the same.
+#[tactic(auto, unfolding(rules::specs::Sheets::form_of, crate::specs::Reading::after_of))]
 pub fn after(b: &[u8], at: usize) -> usize
     ensures { result ≡ after_of b.now at }
 {
     if has_room(b.len(), at, STEP) {
-        return at + STEP;
+        at + STEP
+    } else {
+        at
     }
-    at
 }
 
 fn put_head(buf: &mut [u8], mask: u8)
@@ -172,44 +138,54 @@ fn put_step(buf: &mut [u8], at: usize, step: Step)
     put_fields(buf, at, &widths, &xs);
 }
 
-fn put_steps(buf: &mut [u8], n: usize, kinds: &[u8], ids: &[u8], values: &[u32])
-    requires n_value { n ≡ length (listed kinds.now ids.now values.now) }
-    requires n_in_bounds { sheet_width version1 n ≤ length buf.old }
+fn put_steps(buf: &mut [u8], kinds: &[u8], ids: &[u8], values: &[u32])
+    requires { sheet_width version1 (length (listed kinds.now ids.now values.now)) ≤ length buf.old }
     ensures { buf.new
         ≡ placed buf.old (header_width version1) (steps_bytes version1 (listed kinds.now ids.now values.now)) }
 {
     let mut at = HEAD;
-    let mut i = 0;
-    while i < n {
+    for ((kind, id), value) in kinds.iter().zip(ids).zip(values) {
         let step = Step {
-            kind: kinds[i],
-            id: ids[i],
-            value: values[i],
+            kind: *kind,
+            id: *id,
+            value: *value,
         };
         put_step(buf, at, step);
         at += STEP;
-        i += 1;
     }
 }
 
+// "BAD SHEET for mask 0 or over 8,000 steps". Three slices of unequal lengths are no list.
+fn is_no_sheet(mask: u8, kinds: &[u8], ids: &[u8], values: &[u32]) -> bool
+    ensures { result
+        ≡ (unequal kinds.now ids.now values.now || eqb mask 0 || ltb version1.most_steps (length kinds.now)) }
+{
+    let steps = kinds.len();
+    ids.len() != steps || values.len() != steps || mask == 0 || MOST < steps
+}
+
 // "A list with its mask is written into a lent buffer: BAD SHEET for mask 0 or over 8,000 steps, then NO ROOM; bytes past the sheet stay."
-// Three slices of unequal lengths are no list.
-pub fn write(buf: &mut [u8], mask: u8, kinds: &[u8], ids: &[u8], values: &[u32]) -> Written
+// Answers how many bytes the sheet has.
+pub fn write(
+    buf: &mut [u8],
+    mask: u8,
+    kinds: &[u8],
+    ids: &[u8],
+    values: &[u32],
+) -> Result<usize, Refusal>
     ensures answer { (number_of result ≡ number (ruled buf.old mask kinds.now ids.now values.now))
         × (size_of result ≡ ruled_size buf.old mask kinds.now ids.now values.now) }
     ensures left { buf.new
         ≡ buffer_of buf.old (ruled buf.old mask kinds.now ids.now values.now) }
 {
-    let n = kinds.len();
-    let unequal = (ids.len() != n) | (values.len() != n);
-    if unequal | (mask == 0) | (MOST < n) {
-        return Written::BadSheet;
+    if is_no_sheet(mask, kinds, ids, values) {
+        return Err(Refusal::BadSheet);
     }
-    let size = HEAD + STEP * n;
+    let size = HEAD + STEP * kinds.len();
     if buf.len() < size {
-        return Written::NoRoom;
+        return Err(Refusal::NoRoom);
     }
     put_head(buf, mask);
-    put_steps(buf, n, kinds, ids, values);
-    Written::Done(size)
+    put_steps(buf, kinds, ids, values);
+    Ok(size)
 }

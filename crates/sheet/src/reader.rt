@@ -1,20 +1,15 @@
-// "It is read from the front one step at a time": a reader holds the sheet's bytes and a position. `step_at` and `after` do the work on a plain
-// slice and a number. The functions over `Reader` are thin.
+// "It is read from the front one step at a time": a reader holds the sheet's bytes and a position, and is the iterator of the steps from there on.
+// `step_at` and `after` do the work on a plain slice and a number; `next` is thin.
 ghost use Rattle.std.specs.Prelude.{◌≡◌};
-ghost use Rattle.sheet.specs.Reading.{front_of, step_at, after_of, taken_at};
+ghost use Rattle.std.specs.Iterator.{YieldsFirst, item_count};
+ghost use Rattle.sheet.specs.Reading.{front_of, step_at, after_of, steps_left};
 
-use super::{Found, after, front, step_at};
+use super::{after, front, step_at};
+use rules::Step;
 
 #[derive(Clone, Copy)]
 pub struct Reader<'a> {
     pub sheet: &'a [u8],
-    pub at: usize,
-}
-
-// What is read at a position, and the position past it.
-#[derive(Clone, Copy)]
-pub struct Taken {
-    pub found: Found,
     pub at: usize,
 }
 
@@ -26,27 +21,19 @@ pub fn new<'a>(sheet: &'a [u8]) -> Reader<'a>
     Reader { sheet, at }
 }
 
-// The step at the reader's position, or the end.
-pub fn next<'a>(r: Reader<'a>) -> Found
-    ensures { result ≡ step_at r.entry.sheet.now r.entry.at }
-{
-    step_at(r.sheet, r.at)
-}
+impl Iterator for Reader<'_> {
+    type Item = Step;
 
-// The reader past that step; at the end it stays.
-pub fn moved<'a>(r: Reader<'a>) -> Reader<'a>
-    ensures { (result.sheet ≡ r.entry.sheet) × (result.at ≡ after_of r.entry.sheet.now r.entry.at) }
-{
-    let at = after(r.sheet, r.at);
-    Reader { sheet: r.sheet, at }
-}
+    // The step at the reader's position, if one is left there; the reader past that step, and at the end where it was. So the first of the steps left.
+    ghost next_gives = { λ s r t. (r ≡ step_at s.sheet.now s.at)
+        × ((t.sheet ≡ s.sheet) × (t.at ≡ after_of s.sheet.now s.at))
+        × YieldsFirst steps_left s r t };
 
-// One step for a loop that keeps the position. Its parameters are plain, so that a caller is proved as any other function.
-pub fn read_at(sheet: &[u8], at: usize) -> Taken
-    ensures { result ≡ taken_at sheet.now at }
-{
-    let r = Reader { sheet, at };
-    let found = next(r);
-    let past = moved(r);
-    Taken { found, at: past.at }
+    ghost remaining = { item_count steps_left };
+
+    fn next(&mut self) -> Option<Step> {
+        let step = step_at(self.sheet, self.at);
+        self.at = after(self.sheet, self.at);
+        step
+    }
 }

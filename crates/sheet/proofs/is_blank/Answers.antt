@@ -1,16 +1,13 @@
--- `sheet::is_blank` meets its contract. The steps that are left decide; the measure is how many there are. Assumes nothing.
-use mathlib.Core.Path.{refl}
-use Rattle.sheet.proofs.Reading.{left_fails, left_more, left-none}
+-- `sheet::is_blank` meets its contract. Assumes nothing.
+use Rattle.std.proofs.Common.{rules, tests, ◌∙◌}
+use Rattle.std.proofs.lemmas.Iterator.{YieldsList-from_slice}
+use Rattle.std.proofs.lemmas.Iterator.Search.{all_from_yields_List}
+use Rattle.rows.specs.Tests.{all_zero}
+use Rattle.rules.specs.Sheets.{version1}
+use Rattle.sheet.proofs.Fronts.{blank_lem}
 use Rattle.sheet.proofs.is_blank.Goals as goal
 
-pub loop-left-init : goal.loop-left-init
-loop-left-init c = record { room = c.requires; is = refl }
-
-pub returns-then-not-is_zero : goal.returns-then-not-is_zero
-returns-then-not-is_zero c = left_fails c.loop-left.invariant c.loop-left-test.true c.is_zero.ensures c.if-not-is_zero.true-raw
-
-pub loop-left-preserved : goal.loop-left-preserved
-loop-left-preserved c = left_more c.loop-left.invariant c.loop-left-test.true c.is_zero.ensures c.if-not-is_zero.false-raw
-
 pub returns : goal.returns
-returns c = left-none c.loop-left.invariant c.loop-left-test.false
+returns c =
+    let chunks = YieldsList-from_slice _ (c.iter.ensures.rest ∙ c.as_chunks.ensures.front) in
+    all_from_yields_List (λ step. all_zero step 2 2) _ _ _ c.all.ensures.ran chunks (λ x b q k. search (rules, tests)) ∙ blank_lem version1 _ _

@@ -1,46 +1,45 @@
 -- `sheet::write` meets its contract. Assumes nothing.
-use mathlib.Core.Path.{sym}
+use mathlib.Core.Path.{sym, ◌∙◌}
 use Prim.Native.Nat.{◌≤◌}
 use native.Mathlib.Omega.{arith}
 use lib.ListN.{length}
-use borrow.Author.Rules.{rules}
 use Rattle.rules.specs.Sheets.{version1}
 use Rattle.sheet.specs.Writing.{ruled_size}
 use Rattle.sheet.proofs.Writing.{bad, few, counted, roomless, done, left}
 use Rattle.sheet.proofs.write.Goals as goal
 
-pub returns-then-unequal-mask : goal.returns-then-unequal-mask
+pub returns-then-is_no_sheet : goal.returns-then-is_no_sheet
 unfolding ruled_size
-returns-then-unequal-mask c = let e =
-    bad c.args.buf.now c.args.mask c.args.kinds.now c.args.ids.now c.args.values.now c.if-unequal-mask.true in record { answer = (rw e, rw e); left = rw e }
+returns-then-is_no_sheet c = let e =
+    bad c.args.buf.now c.args.mask c.args.kinds.now c.args.ids.now c.args.values.now (sym c.is_no_sheet.ensures ∙ c.if-is_no_sheet.true) in record { answer = (rw e, rw e); left = rw e }
 
 pub overflow_mul-size : goal.overflow_mul-size
 overflow_mul-size c =
     let few_steps : length c.args.kinds.now ≤ version1.most_steps =
-    few c.args.buf.now c.args.mask c.args.kinds.now c.args.ids.now c.args.values.now c.if-unequal-mask.false in
+    few c.args.buf.now c.args.mask c.args.kinds.now c.args.ids.now c.args.values.now (sym c.is_no_sheet.ensures ∙ c.if-is_no_sheet.false) in
     omega (arith, few_steps)
 
 pub overflow_add-size : goal.overflow_add-size
 overflow_add-size c =
     let few_steps : length c.args.kinds.now ≤ version1.most_steps =
-    few c.args.buf.now c.args.mask c.args.kinds.now c.args.ids.now c.args.values.now c.if-unequal-mask.false in
+    few c.args.buf.now c.args.mask c.args.kinds.now c.args.ids.now c.args.values.now (sym c.is_no_sheet.ensures ∙ c.if-is_no_sheet.false) in
     omega (arith, few_steps)
 
 pub returns-then-buf-size : goal.returns-then-buf-size
 unfolding ruled_size
 returns-then-buf-size c = let e =
-    roomless c.args.buf.now c.args.mask c.args.kinds.now c.args.ids.now c.args.values.now c.if-unequal-mask.false c.if-buf-size.true in record
+    roomless c.args.buf.now c.args.mask c.args.kinds.now c.args.ids.now c.args.values.now (sym c.is_no_sheet.ensures ∙ c.if-is_no_sheet.false) c.if-buf-size.true in record
     { answer = (rw e, rw e); left = rw e }
 
 pub put_steps-requires : goal.put_steps-requires
-put_steps-requires c = let n =
-    counted c.args.buf.now c.args.mask c.args.kinds.now c.args.ids.now c.args.values.now c.if-unequal-mask.false in record
-    { n_value = sym n; n_in_bounds = search rules }
+put_steps-requires c =
+    let a = c.args in
+    omega (arith, counted a.buf.now a.mask a.kinds.now a.ids.now a.values.now (sym c.is_no_sheet.ensures ∙ c.if-is_no_sheet.false))
 
 pub returns : goal.returns
 returns c =
     let a = c.args in
     record {
-      answer = done a.buf.now a.mask a.kinds.now a.ids.now a.values.now c.if-unequal-mask.false c.if-buf-size.false;
-      left = left a.buf.now a.mask a.kinds.now a.ids.now a.values.now c.if-unequal-mask.false c.if-buf-size.false _ _ c.put_head.ensures c.put_steps.ensures;
+      answer = done a.buf.now a.mask a.kinds.now a.ids.now a.values.now (sym c.is_no_sheet.ensures ∙ c.if-is_no_sheet.false) c.if-buf-size.false;
+      left = left a.buf.now a.mask a.kinds.now a.ids.now a.values.now (sym c.is_no_sheet.ensures ∙ c.if-is_no_sheet.false) c.if-buf-size.false _ _ c.put_head.ensures c.put_steps.ensures;
     }
