@@ -1,7 +1,7 @@
 -- `desk::notes_ack` meets its contract. Assumes nothing.
-use native.Mathlib.Omega.{arith}
-use Prim.Native.Nat.{◌*◌, ◌^◌, ◌%◌}
 use mathlib.Core.Path.{◌≡◌}
+use Prim.Native.Nat.{◌*◌, ◌^◌, ◌%◌}
+use native.Mathlib.Omega.{arith}
 use lib.Pow.{shl_exact}
 use Rattle.rules.specs.Desks.{notes_ack}
 use Rattle.desk.proofs.notes_ack.Goals as goal
