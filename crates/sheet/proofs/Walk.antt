@@ -1,6 +1,7 @@
 -- The code's answer is the rules' reading of the same bytes, and a reader goes through an accepted sheet's list of steps.
 -- Assumes nothing.
 use Rattle.std.specs.Prelude.{if◌then◌else◌, Option, None, Some, Ok, Err}
+use Rattle.std.specs.Option.{MatchOption, option_map}
 use Rattle.std.specs.Iterator.{YieldsFirst, MakesProgress, item_count}
 use mathlib.Core.Path.{◌≡◌, refl, sym, ap, ◌∙◌}
 use mathlib.Core.Bool.{Bool, true, false}
@@ -17,7 +18,6 @@ use Rattle.rules.specs.Sheets.{Form, bad, sheet, step_width, step_in, steps_in, 
 use Rattle.rules.specs.declared.Refusal.TheVariants.{BadSheet}
 use Rattle.sheet.specs.declared.reader.Reader.{Reader}
 use Rattle.sheet.specs.Reading.{check_of, read_of, front_of, step_at, after_of, taken_at, steps_from, steps_left}
-use Rattle.sheet.proofs.Reading.{step-none, step-some, after_none, after-some}
 pub use Rattle.rules.proofs.Sheets.{sound}
 
 pub check_reads : (b : List ℕ) → read_of (check_of b) b ≡ sheet_in b
@@ -77,57 +77,63 @@ module _ (b : List ℕ) (at : ℕ) where
       let none : (length b - at) / w ≡ 0 = div-eq_of_lt (omega arith) in
       rw none
 
-  module _ (t : Option Step × ℕ) (e : t ≡ taken_at b at) where
-    pub taken_step : (k : Step) → t.0 ≡ Some k → steps_from b at ≡ k ∷ steps_from b t.1
+  module _ (t : Option (Step × ℕ)) (e : t ≡ taken_at b at) where
+    pub taken_step : (k : Step) (past : ℕ) → t ≡ Some (k, past) → steps_from b at ≡ k ∷ steps_from b past
     unfolding taken_at
-    taken_step k f = go (leb (at + w) (length b)) refl
+    taken_step k past f = go (leb (at + w) (length b)) refl
       where
-        go : (x : Bool) → leb (at + w) (length b) ≡ x → steps_from b at ≡ k ∷ steps_from b t.1
+        go : (x : Bool) → leb (at + w) (length b) ≡ x → steps_from b at ≡ k ∷ steps_from b past
         go true g =
-            let room : at + w ≤ length b = leb-true (at + w) (length b) g in
-            let found : Some (step_in (form_in b) (drop at b)) ≡ Some k = sym (step-some b at room) ∙ ap (λ (a : Option Step × ℕ). a.0) (sym e) ∙ f in
-            let is : step_in (form_in b) (drop at b) ≡ k = cc in
-            let past : t.1 ≡ at + w = ap (λ (a : Option Step × ℕ). a.1) e ∙ after-some b at room in
-            rw (is, ← past) at (from_some room)
+            let taken : ◌≡◌ {A = Option (Step × ℕ)} (Some (step_in (form_in b) (drop at b), at + w)) (Some (k, past)) = sym (rw g at e) ∙ f in
+            let both : ◌≡◌ {A = Step × ℕ} (step_in (form_in b) (drop at b), at + w) (k, past) = cc in
+            let first : step_in (form_in b) (drop at b) ≡ k = ap (λ (p : Step × ℕ). p.0) both in
+            let there : at + w ≡ past = ap (λ (p : Step × ℕ). p.1) both in
+            rw (first, there) at (from_some (leb-true (at + w) (length b) g))
         go false g =
-            let found = sym (step-none b at (leb-false (at + w) (length b) g)) ∙ ap (λ (a : Option Step × ℕ). a.0) (sym e) ∙ f in
+            let taken : ◌≡◌ {A = Option (Step × ℕ)} None (Some (k, past)) = sym (rw g at e) ∙ f in
             let z : ◌≡◌ {A = ℕ} 0 1 = cc in
             absurd (omega arith)
 
-    pub taken_end : t.0 ≡ None → steps_from b at ≡ []
+    pub taken_end : t ≡ None → steps_from b at ≡ []
     unfolding taken_at
     taken_end f = go (leb (at + w) (length b)) refl
       where
         go : (x : Bool) → leb (at + w) (length b) ≡ x → steps_from b at ≡ []
         go true g =
-            let found = sym (step-some b at (leb-true (at + w) (length b) g)) ∙ ap (λ (a : Option Step × ℕ). a.0) (sym e) ∙ f in
+            let taken : ◌≡◌ {A = Option (Step × ℕ)} (Some (step_in (form_in b) (drop at b), at + w)) None = sym (rw g at e) ∙ f in
             let z : ◌≡◌ {A = ℕ} 0 1 = cc in
             absurd (omega arith)
         go false g = from-none (leb-false (at + w) (length b) g)
 
-    -- at the end the position stays, so that there none is left either
-    taken_stays : t.0 ≡ None → steps_from b t.1 ≡ []
-    unfolding taken_at
-    taken_stays f = go (leb (at + w) (length b)) refl
-      where
-        go : (x : Bool) → leb (at + w) (length b) ≡ x → steps_from b t.1 ≡ []
-        go true g =
-            let found = sym (step-some b at (leb-true (at + w) (length b) g)) ∙ ap (λ (a : Option Step × ℕ). a.0) (sym e) ∙ f in
-            let z : ◌≡◌ {A = ℕ} 0 1 = cc in
-            absurd (omega arith)
-        go false g =
-            let short = leb-false (at + w) (length b) g in
-            let stays : t.1 ≡ at = ap (λ (a : Option Step × ℕ). a.1) e ∙ after_none b at short in
-            rw stays (from-none short)
+  -- the step at a position, and the position past it, are what is taken there
+  taken_both : option_map {U = Step × ℕ} (λ k. (k, after_of b at)) (step_at b at) ≡ taken_at b at
+  unfolding taken_at step_at after_of
+  taken_both = go (leb (at + w) (length b))
+    where
+      go : (x : Bool) → let k = step_in (form_in b) (drop at b) in
+          option_map {U = Step × ℕ} (λ (k : Step). (k, if x then at + w else at)) (if x then Some k else None) ≡ (if x then Some (k, at + w) else None)
+      go true = refl
+      go false = refl
+
+  pub taken_by : (r : Option Step) (past : ℕ) → r ≡ step_at b at → past ≡ after_of b at → option_map {U = Step × ℕ} (λ k. (k, past)) r ≡ taken_at b at
+  taken_by r past e f = rw (e, f) taken_both
+
+  -- the first of those left, and the others; or the end, where the position stays
+  abbrev First : Option Step → ℕ → Type 0
+  First r past = MatchOption r ((steps_from b at ≡ []) × (steps_from b past ≡ [])) (λ k. steps_from b at ≡ k ∷ steps_from b past)
+
+  first_step : First (step_at b at) (after_of b at)
+  unfolding step_at after_of
+  first_step = go (leb (at + w) (length b)) refl
+    where
+      go : (x : Bool) → leb (at + w) (length b) ≡ x → First (if x then Some (step_in (form_in b) (drop at b)) else None) (if x then at + w else at)
+      go true g = from_some (leb-true (at + w) (length b) g)
+      go false g = let none : steps_from b at ≡ [] = from-none (leb-false (at + w) (length b) g) in (none, none)
 
 -- a reader that gives the step at its position, and goes past it, gives the first of the steps that it has left
-pub first_left : (s : Reader) (r : Option Step) (at : ℕ) → r ≡ step_at s.sheet.now s.at → at ≡ after_of s.sheet.now s.at
-    → YieldsFirst steps_left s r (record { sheet = s.sheet; at = at })
-unfolding taken_at
-first_left s None at e f =
-    let t : (None, at) ≡ taken_at s.sheet.now s.at = λ i. (e i, f i) in
-    (taken_end s.sheet.now s.at (None, at) t refl, taken_stays s.sheet.now s.at (None, at) t refl)
-first_left s (Some k) at e f = taken_step s.sheet.now s.at (Some k, at) (λ i. (e i, f i)) k refl
+module _ (s : Reader) (r : Option Step) (at : ℕ) (e : r ≡ step_at s.sheet.now s.at) (f : at ≡ after_of s.sheet.now s.at) where
+  pub first_left : YieldsFirst steps_left s r (record { sheet = s.sheet; at = at })
+  first_left = rw (e, f) (first_step s.sheet.now s.at)
 
 -- so that they come to an end
 pub fewer_left : (s t : Reader) (r : Option Step) → YieldsFirst steps_left s r t → MakesProgress (λ (_ : Reader). Unit {0}) (item_count steps_left) s r t

@@ -2,13 +2,11 @@
 use Rattle.std.specs.Prelude.{if◌then◌else◌}
 use mathlib.Core.Path.{◌≡◌, refl, sym, ap, ◌∙◌}
 use mathlib.Core.Bool.{Bool, true, false, not, ◌||◌}
-use mathlib.Core.List.{List, [], ◌∷◌, map, ◌++◌, append-nil}
+use mathlib.Core.List.{List, [], ◌∷◌, map, ◌++◌}
 use Prim.Native.Nat.{ℕ, ◌+◌, ◌-◌, ◌*◌, ◌≤◌, ◌<◌}
 use native.Mathlib.Nat.{zero-add}
 use native.Mathlib.Numerals.{add-one}
 use native.Mathlib.Omega.{arith}
-use mir.Syntax.{w8}
-use mir.Val.{Fits}
 use lib.Dec.{eqb, ltb}
 use lib.ListN.{length, get_or, drop, length-drop, length-map, get_or-map, drop_of_length-le}
 use lib.Seq.{drop-cons}
@@ -16,9 +14,8 @@ use borrow.Author.Tests.{ltb-false, eqb-true, eqb-false, lt-ltb, le-ltb, ne_eqb,
 use Rattle.std.specs.List.{zip}
 use Rattle.std.proofs.lemmas.Slice.Zip.{length-zip}
 use Rattle.views.proofs.Truth.{neither_true}
-use Rattle.rows.specs.Bytes.{splice, placed, bytes_of, fields_of}
+use Rattle.rows.specs.Bytes.{splice, placed, bytes_of}
 use Rattle.rows.proofs.Laws.{placed-length, placed_nil, placed_more, placed_fits}
-use Rattle.rows.proofs.Numbers.{byte-number, zeros-number}
 use Rattle.rules.specs.declared.Step.{Step}
 use Rattle.rules.specs.Sheets.{Form, version1, step_width, step_bytes, steps_bytes, header_width, header_bytes, sheet_bytes, sheet_width}
 use Rattle.rules.specs.Sheets.{bad_sheet, no_room, wrote, number, written}
@@ -40,13 +37,6 @@ listed_zip (k ∷ ks) (i ∷ is) (v ∷ vs) = ap (λ (l : List Step). record { k
 
 pub zipped-length : (ks is vs : List ℕ) → length (listed ks is vs) ≡ length (zip (zip ks is) vs)
 zipped-length ks is vs = ap length (listed_zip ks is vs) ∙ length-map (zip (zip ks is) vs) three
-
--- ---- the bytes of a step, as they are written
-
-pub step_bytes_lem : (f : Form) (k : Step) → Fits w8 k.kind → Fits w8 k.id
-    → fields_of (1 ∷ 1 ∷ f.zero_bytes ∷ f.value_bytes ∷ []) (k.kind ∷ k.id ∷ 0 ∷ k.value ∷ []) ≡ step_bytes f k
-unfolding fields_of
-step_bytes_lem f k kind id = rw (byte-number kind, byte-number id, zeros-number f.zero_bytes, append-nil (bytes_of f.value_bytes k.value))
 
 -- ---- the loop: with the steps from the i-th on written from o on, l is l₀ with all of them
 

@@ -28,9 +28,11 @@ step_at b at = if leb (at + step_width (form_in b)) (length b) then Some (step_i
 unfoldable pub after_of : List ℕ → ℕ → ℕ
 after_of b at = if leb (at + step_width (form_in b)) (length b) then at + step_width (form_in b) else at
 
--- both
-unfoldable pub taken_at : List ℕ → ℕ → Option Step × ℕ
-taken_at b at = (step_at b at, after_of b at)
+-- both, if a step is left there
+unfoldable pub taken_at : List ℕ → ℕ → Option (Step × ℕ)
+taken_at b at =
+    if leb (at + step_width (form_in b)) (length b) then Some (step_in (form_in b) (drop at b), at + step_width (form_in b))
+    else None
 
 -- all steps from a position on; a part step at the end is none
 unfoldable pub steps_from : List ℕ → ℕ → List Step

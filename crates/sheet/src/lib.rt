@@ -7,7 +7,7 @@ ghost use Rattle.rules.specs.Sheets.{version1, marked, header_width, header_byte
 ghost use Rattle.sheet.specs.Reading.{check_of, front_of, step_at, after_of};
 ghost use Rattle.sheet.specs.Writing.{listed, unequal, ruled, ruled_size, buffer_of, number_of, size_of};
 
-use rows::{byte_at, has_room, is_zero, put_fields, read_u16, read_u32};
+use rows::{Field, byte_at, has_room, is_zero, put_fields, read_u16, read_u32};
 use rules::{Refusal, Step};
 
 pub mod reader; // a sheet's bytes and a position: the iterator of its steps
@@ -118,24 +118,27 @@ pub fn after(b: &[u8], at: usize) -> usize
 fn put_head(buf: &mut [u8], mask: u8)
     ensures { buf.new ≡ placed buf.old 0 (header_bytes version1 mask) }
 {
-    let widths = [1u8, 1, 1, 2, 1];
-    let xs = [
-        MARK[0] as u32,
-        MARK[1] as u32,
-        MARK[2] as u32,
-        VERSION as u32,
-        mask as u32,
+    let fields = [
+        Field::Byte(MARK[0]),
+        Field::Byte(MARK[1]),
+        Field::Byte(MARK[2]),
+        Field::U16(VERSION),
+        Field::Byte(mask),
     ];
-    put_fields(buf, 0, &widths, &xs);
+    put_fields(buf, 0, &fields);
 }
 
 // "8 bytes a step: kind, id, two zero bytes, value"
 fn put_step(buf: &mut [u8], at: usize, step: Step)
     ensures { buf.new ≡ placed buf.old at (step_bytes version1 step) }
 {
-    let widths = [1u8, 1, 2, 4];
-    let xs = [step.kind as u32, step.id as u32, 0, step.value];
-    put_fields(buf, at, &widths, &xs);
+    let fields = [
+        Field::Byte(step.kind),
+        Field::Byte(step.id),
+        Field::Zeros(ZEROS as u8),
+        Field::U32(step.value),
+    ];
+    put_fields(buf, at, &fields);
 }
 
 fn put_steps(buf: &mut [u8], kinds: &[u8], ids: &[u8], values: &[u32])

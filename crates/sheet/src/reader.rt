@@ -2,7 +2,7 @@
 // `step_at` and `after` do the work on a plain slice and a number; `next` is thin.
 ghost use Rattle.std.specs.Prelude.{◌≡◌};
 ghost use Rattle.std.specs.Iterator.{YieldsFirst, item_count};
-ghost use Rattle.sheet.specs.Reading.{front_of, step_at, after_of, steps_left};
+ghost use Rattle.sheet.specs.Reading.{front_of, step_at, after_of, taken_at, steps_left};
 
 use super::{after, front, step_at};
 use rules::Step;
@@ -36,4 +36,13 @@ impl Iterator for Reader<'_> {
         self.at = after(self.sheet, self.at);
         step
     }
+}
+
+// One step for a loop that keeps the position: the step that is read there, and the position past it.
+pub fn read_at(sheet: &[u8], at: usize) -> Option<(Step, usize)>
+    ensures { result ≡ taken_at sheet.now at }
+{
+    let mut reader = Reader { sheet, at };
+    let step = reader.next()?;
+    Some((step, reader.at))
 }
