@@ -26,6 +26,7 @@ pub fn byte_at(s: &[u8], at: usize) -> u8
     s.get(at).copied().unwrap_or(0)
 }
 
+// By a range, and not by `get_mut`: what is written through that is not known afterwards.
 fn put_bytes(s: &mut [u8], at: usize, bytes: &[u8])
     ensures { s.new ≡ placed s.old at bytes.now }
 {
@@ -134,7 +135,7 @@ pub fn read_u32(s: &[u8], at: usize) -> u32
     high * 65536 + low
 }
 
-// Eight bytes in one test: a world has many that must be zero.
+// Eight bytes in one test: byte by byte takes several times as long, and a world has many that must be zero.
 fn only_zeros(s: &[u8]) -> bool
     ensures { result ≡ list_all (λ x. x == 0) s.now }
 {
