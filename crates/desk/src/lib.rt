@@ -2,6 +2,7 @@
 #![tactic(auto, using(crate::proofs::Laws::plans))]
 
 ghost use Rattle.std.specs.Prelude.{◌≡◌, true, [], ◌<◌, if◌then◌else◌};
+ghost use Rattle.rules.specs.Sets.{relay_count};
 ghost use Rattle.rules.specs.Messages.{not_now, refused};
 ghost use Rattle.rules.specs.State.{no_desk};
 ghost use Rattle.rules.specs.Desks as rule;
@@ -71,10 +72,10 @@ pub fn write_asked(d: Desk, x: u32) -> Result<Plan<Desk>, Refusal>
     asked(d, Phase::Write1, p)
 }
 
-// A reply that may count: to a desk that is not idle, of its try, from a member of its view.
+// A reply that may count: to a desk that is not idle, of its try, from a member of its view, and so from a relay.
 #[tactic(auto, using(views::proofs::Sets::member_lt))]
 fn current(d: Desk, from: u8, tries: u16) -> bool
-    ensures { (result ≡ rule.current d from tries) × (result ≡ true → from < 8) }
+    ensures { (result ≡ rule.current d from tries) × (result ≡ true → from < relay_count) }
 {
     d.phase != Phase::Idle && tries == d.tries && views::is_member(d.view, from)
 }
@@ -93,7 +94,7 @@ fn view_came(d: Desk, from: u8, tries: u16, v: u16) -> Result<Plan<Desk>, Refusa
 
 // "an acknowledgement sets only who replied."
 fn notes_ack(d: Desk, from: u8) -> Desk
-    requires { from < 8 }
+    requires { from < relay_count }
     ensures { result ≡ rule.notes_ack d from }
 {
     Desk {
@@ -156,6 +157,7 @@ fn takes_stamp(n: u8, d: Desk) -> Result<Plan<Desk>, Refusal>
     begins(d, Phase::Write2, d.view, p)
 }
 
+// "read 1 ends with event 2 if all stamps agreed, else read 2 puts back the greatest; read 2 ends, event 2"; "write 2 ends, event 3"
 #[tactic(auto, using(crate::proofs::Laws::plans), unfolding(rules::specs::Desks::completes, state::specs::Meaning::event_of))]
 fn completes(n: u8, d: Desk) -> Result<Plan<Desk>, Refusal>
     ensures { desk_plan_of result ≡ planned no_desk (rule.completes n d d.phase) }
@@ -182,6 +184,7 @@ fn counted(n: u8, d: Desk) -> Result<Plan<Desk>, Refusal>
     }
 }
 
+// A stamp and its value, which count in phase 1: of the other phase's kind, a reply does nothing.
 #[tactic(auto, using(crate::proofs::Laws::plans), unfolding(rules::specs::Desks::pair_came, crate::specs::Replies::reply_noted))]
 fn pair_came(n: u8, d: Desk, from: u8, tries: u16, p: Pair) -> Result<Plan<Desk>, Refusal>
     ensures { desk_plan_of result ≡ planned no_desk (rule.pair_came n d from tries p) }
@@ -193,6 +196,7 @@ fn pair_came(n: u8, d: Desk, from: u8, tries: u16, p: Pair) -> Result<Plan<Desk>
     }
 }
 
+// An acknowledgement, which counts in phase 2.
 #[tactic(auto, using(crate::proofs::Laws::plans), unfolding(rules::specs::Desks::ack_came))]
 fn ack_came(n: u8, d: Desk, from: u8, tries: u16) -> Result<Plan<Desk>, Refusal>
     ensures { desk_plan_of result ≡ planned no_desk (rule.ack_came n d from tries) }
@@ -204,7 +208,7 @@ fn ack_came(n: u8, d: Desk, from: u8, tries: u16) -> Result<Plan<Desk>, Refusal>
     }
 }
 
-// What comes to the desk n: "All but replies go to relays only."
+// What comes to the desk n. All but replies go to relays only: a desk does nothing about them.
 #[tactic(auto, using(crate::proofs::Laws::plans), unfolding(rules::specs::Desks::desk_hears, state::specs::Meaning::body_of, layout::specs::Image::body_in))]
 pub fn hears(n: u8, d: Desk, from: u8, b: Body) -> Result<Plan<Desk>, Refusal>
     ensures { desk_plan_of result ≡ planned no_desk (rule.desk_hears n d from (body_of b)) }
