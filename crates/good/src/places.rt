@@ -18,7 +18,7 @@ ghost use Rattle.good.specs.Meant.{message_means};
 
 use super::parts;
 use super::row::{Row, good_row};
-use layout::MESSAGE_WIDTH;
+use layout::{MESSAGE_WIDTH, MessageKind};
 use stamps::Pair;
 use state::Message;
 use views::Sequence;
@@ -142,6 +142,7 @@ fn good_ack(from: u8, to: u8, tries: u16) -> bool
     replied(from, to)
 }
 
+#[tactic(auto, unfolding(state::specs::Meaning::message_of, state::specs::Meaning::body_of, layout::specs::Image::body_in))]
 fn good_message(m: Message) -> bool
     ensures { result ≡ good_place (waiting (message_of m)) }
 {
@@ -150,19 +151,18 @@ fn good_message(m: Message) -> bool
     let b = m.body;
     let q = b.sequence;
     let p = b.pair;
-    let kind = b.kind;
-    match kind {
-        1 => good_request(from, to, b.updates, b.first),
-        2 => good_view(from, to, b.first),
-        3 => good_proposal(from, to, b.first, q),
-        4 => good_proposal(from, to, b.first, q),
-        5 => good_install(from, to, b.first, b.second, q),
-        6 => good_state(from, to, b.first, b.second, p, b.updates),
-        7 => good_get(from, to, b.tries, b.first),
-        8 => good_put(from, to, b.tries, b.first, p),
-        9 => good_view_reply(from, to, b.tries, b.first),
-        10 => good_pair_reply(from, to, b.tries, p),
-        _ => good_ack(from, to, b.tries),
+    match MessageKind::from(b.kind) {
+        MessageKind::Request => good_request(from, to, b.updates, b.first),
+        MessageKind::View => good_view(from, to, b.first),
+        MessageKind::Proposal => good_proposal(from, to, b.first, q),
+        MessageKind::Converged => good_proposal(from, to, b.first, q),
+        MessageKind::Install => good_install(from, to, b.first, b.second, q),
+        MessageKind::State => good_state(from, to, b.first, b.second, p, b.updates),
+        MessageKind::Get => good_get(from, to, b.tries, b.first),
+        MessageKind::Put => good_put(from, to, b.tries, b.first, p),
+        MessageKind::ViewReply => good_view_reply(from, to, b.tries, b.first),
+        MessageKind::PairReply => good_pair_reply(from, to, b.tries, p),
+        MessageKind::Ack => good_ack(from, to, b.tries),
     }
 }
 
@@ -202,7 +202,7 @@ fn good_place_row(w: &[u8], at: usize) -> bool
 {
     match rows::byte_at(w, at) {
         layout::NO_KIND => rows::is_zero(w, at, MESSAGE_WIDTH),
-        layout::REQUEST..=layout::ACK => good_row::<Message, MESSAGE_WIDTH>(w, 0, at),
+        layout::FIRST_KIND..=layout::LAST_KIND => good_row::<Message, MESSAGE_WIDTH>(w, 0, at),
         _ => false,
     }
 }

@@ -13,11 +13,15 @@ use Rattle.rules.specs.Sets.{those}
 use Rattle.rules.specs.State.{Generator, Transfer, free, waiting}
 use Rattle.rules.specs.Messages as rules
 use Rattle.layout.specs.Layout.{generator_width, transfer_width, relay_generators, relay_transfers}
-use Rattle.layout.specs.Image.{body_row, body_in, place_in, row_bytes, place_bytes, head_bytes, relay_at, generator_at, transfer_at, filled_generator, filled_transfer}
+use Rattle.layout.specs.Kinds.{kind_of}
+use Rattle.layout.specs.declared.MessageKind.{MessageKind}
+use Rattle.layout.specs.declared.MessageKind.TheVariants.{Request, View, Proposal, Converged, Install, State, Get, Put, ViewReply, PairReply, Ack}
+use Rattle.layout.specs.Image.{body_row, body_by, body_in, place_in, row_bytes, place_bytes, head_bytes, relay_at, generator_at, transfer_at, filled_generator, filled_transfer}
 use Rattle.layout.proofs.Rows.{addressed, row_of_lem}
 use Rattle.state.specs.declared.Head.{Head}
+use Rattle.state.specs.declared.Body.{Body}
 use Rattle.state.specs.declared.Message.{Message}
-use Rattle.state.specs.Meaning.{row_of_body, relay_of, body_of, message_of}
+use Rattle.state.specs.Meaning.{addressed_row, row_of_body, relay_of, body_of, message_of}
 use Rattle.image.specs.Parts.{head_at, message_row}
 
 -- ---- a relay is its head with its two tables
@@ -41,10 +45,24 @@ note_at qs k = sym (get_or-map views_of qs k (record { views = []; len = 0 }))
 
 -- ---- a place is what its row says
 
+-- what a row of any kind says does not go by its ends
+ends_aside : (s r : ℕ) (b : Body) (k : MessageKind) → body_by k (addressed_row s r b) ≡ body_by k (row_of_body b)
+ends_aside s r b Request = refl
+ends_aside s r b View = refl
+ends_aside s r b Proposal = refl
+ends_aside s r b Converged = refl
+ends_aside s r b Install = refl
+ends_aside s r b State = refl
+ends_aside s r b Get = refl
+ends_aside s r b Put = refl
+ends_aside s r b ViewReply = refl
+ends_aside s r b PairReply = refl
+ends_aside s r b Ack = refl
+
 module _ (m : Message) where
   pub place_is : place_in (message_row m) ≡ (if leb 1 m.body.kind && leb m.body.kind 11 then waiting (message_of m) else free)
   unfolding place_in body_in message_row message_of body_of
-  place_is = refl
+  place_is = rw (ends_aside m.from m.to m.body (kind_of m.body.kind))
 
   pub place_of : 1 ≤ m.body.kind → m.body.kind ≤ 11 → place_in (message_row m) ≡ waiting (message_of m)
   place_of low high = place_is ∙ rw (le-leb 1 m.body.kind low, le-leb m.body.kind 11 high)

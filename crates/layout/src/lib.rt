@@ -185,7 +185,9 @@ pub enum MessageKind {
     Ack,
 }
 
-// The greatest that a row's kind can be.
+// The least and the greatest of the kinds' numbers.
+pub const FIRST_KIND: u8 = MessageKind::Request as u8;
+
 pub const LAST_KIND: u8 = MessageKind::Ack as u8;
 
 impl MessageKind {
