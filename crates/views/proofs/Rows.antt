@@ -44,10 +44,6 @@ pub held : (q : Sequence) (l : List ℕ) → q ≡ row_of l → views_of q ≡ t
 unfolding views_of row_of
 held q l e = rw e (take-append_seam (take 15 l) (replicate (15 - length l) 0))
 
--- a row made of the views of another holds the same
-pub held_same : (r q : Sequence) → length q.views ≡ 15 → r ≡ row_of (views_of q) → views_of r ≡ views_of q
-held_same r q full e = held r _ e ∙ take_all 15 (views_of q) (omega (arith, views_length q full))
-
 -- what is the row of some list is the row of its own views
 pub clean_row : (q : Sequence) (l : List ℕ) → q ≡ row_of l → q ≡ row_of (views_of q)
 clean_row q l e = e ∙ sym (row-take l) ∙ ap row_of (sym (held q l e))

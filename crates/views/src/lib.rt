@@ -108,7 +108,7 @@ pub struct Sequence {
 
 impl Sequence {
     // The views that it has: of a length above the row's, all fifteen.
-    pub fn as_slice(&self) -> &[u16]
+    fn as_slice(&self) -> &[u16]
         ensures views { result.now ≡ views_of self.now }
         ensures short { length result.now ≤ 15 }
     {

@@ -17,7 +17,8 @@ module _ (f : ℕ → Bool) where
       joins true = refl
       joins false = refl
 
-  those_more : (l : List ℕ) (i : ℕ) → i < length l → those f (take (i + 1) l) ≡ those f (take i l) ++ (if f (get_or l i 0) then get_or l i 0 ∷ [] else [])
+  those_more : (l : List ℕ) (i : ℕ) → i < length l
+      → those f (take (i + 1) l) ≡ those f (take i l) ++ (if f (get_or l i 0) then get_or l i 0 ∷ [] else [])
   unfolding those
   those_more l i h = rw (take_more l i 0 h, those-append)
 

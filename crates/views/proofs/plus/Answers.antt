@@ -1,5 +1,6 @@
 -- `views::plus` meets its contract: the views below v, then v unless the rest begins with it, and then the rest. Assumes nothing.
-use Rattle.std.proofs.Common.{◌≡◌, ◌∙◌, ℕ, Bool, true, false, cond, List, [], ◌∷◌, ◌++◌, take, drop, length, refl, ap, arith, append_assoc, ◌<◌, not, Option, Some, None, one-add}
+use Rattle.std.proofs.Common.{◌≡◌, ◌∙◌, ℕ, Bool, true, false, cond, List, [], ◌∷◌, ◌++◌, take, drop, length, refl, ap, arith}
+use Rattle.std.proofs.Common.{append_assoc, ◌<◌, ◌≤◌, not, Option, Some, None, one-add}
 use Rattle.std.specs.List.{position, position_or_len, starts_with}
 use Rattle.std.specs.Option.{unwrap_or}
 use Rattle.std.proofs.lemmas.List.Sums.{prefix_len-le-length}
@@ -28,14 +29,17 @@ parts v (w ∷ l) =
 
 -- where there is no such place it is the end
 place : (v : ℕ) (l : List ℕ) → unwrap_or (position (leb v) l) (length l) ≡ position_or_len (leb v) l
-place v l = at (ltb (position_or_len (leb v) l) (length l)) refl
+place v l = at (position_or_len (leb v) l) (prefix_len-le-length (λ w. not (leb v w)) l)
   where
-    at : (s : Bool) → ltb (position_or_len (leb v) l) (length l) ≡ s → unwrap_or (cond s (Some (position_or_len (leb v) l)) None) (length l) ≡ position_or_len (leb v) l
-    at true e = refl
-    at false e = omega (arith, ltb-false (position_or_len (leb v) l) (length l) e, prefix_len-le-length (λ w. not (leb v w)) l)
+    at : (n : ℕ) → n ≤ length l → unwrap_or (cond (ltb n (length l)) (Some n) None) (length l) ≡ n
+    at n h = go (ltb n (length l)) refl
+      where
+        go : (s : Bool) → ltb n (length l) ≡ s → unwrap_or (cond s (Some n) None) (length l) ≡ n
+        go true e = refl
+        go false e = omega (arith, ltb-false n (length l) e)
 
-whole : (v : ℕ) (l below onward : List ℕ) (n : ℕ) (o : Option ℕ) → o ≡ position (leb v) l → n ≡ unwrap_or o (length l) → below ≡ take n l → onward ≡ drop n l
-    → plus_of v l ≡ parted v below onward
+whole : (v : ℕ) (l below onward : List ℕ) (n : ℕ) (o : Option ℕ) → o ≡ position (leb v) l → n ≡ unwrap_or o (length l)
+    → below ≡ take n l → onward ≡ drop n l → plus_of v l ≡ parted v below onward
 whole v l below onward n o eo en eb er = parts v l ∙ rw (eb, er, en, eo, place)
 
 pub rest-start-requires : goal.rest-start-requires
