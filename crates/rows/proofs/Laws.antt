@@ -13,7 +13,7 @@ use borrow.Rule.Slice.PartMut.{put_mid}
 use lib.Dec.{leb}
 use lib.ListN.{get_or-append, length, get_or, take, drop, set, length-append, length-take, length-drop, take-append-drop, length-set}
 use lib.Seq.{take_at, drop_at, drop-append-add, take-append-add, drop-append-le, take-append-le, drop-drop, sets-eq, set_out, get_or_at, ext_get_or, get_or-set_same, get_or-set_other}
-use borrow.Author.Tests.{le-leb, lt-leb, leb-true, leb-false, not-true, not-false}
+use borrow.Author.Tests.{le-leb, lt-leb, leb-true, leb-false, not-false}
 use Rattle.std.proofs.lemmas.List.Edits.{paste_all}
 use Rattle.std.proofs.lemmas.Slice.{put_mid-paste}
 use Rattle.rows.specs.Bytes.{splice, placed, run, tab}

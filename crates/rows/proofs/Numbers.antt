@@ -1,16 +1,14 @@
 -- Laws of numbers in bytes, high byte first, over how many bytes there are: each number is read back from its bytes, and bytes are those of
 -- the number that is read from them. The names with 16 and 32 are these laws at two and four bytes. Assumes nothing.
-use mathlib.Core.Path.{◌≡◌, refl, sym, ap, ◌∙◌}
-use mathlib.Core.Bool.{Bool, true, false}
+use mathlib.Core.Path.{◌≡◌, refl, ap}
 use mathlib.Core.List.{List, [], ◌∷◌, ◌++◌}
-use Prim.Native.Nat.{ℕ, zero, suc, ◌+◌, ◌*◌, ◌^◌, ◌/◌, ◌%◌, ◌≤◌, ◌<◌, min}
-use native.Mathlib.Nat.{add_assoc, add-zero, pow-zero, pow-suc}
+use Prim.Native.Nat.{ℕ, zero, suc, ◌+◌, ◌*◌, ◌^◌, ◌/◌, ◌%◌, ◌≤◌, ◌<◌}
+use native.Mathlib.Nat.{pow-zero, pow-suc}
 use native.Mathlib.Omega.{arith}
 use mir.Syntax.{w8}
 use mir.Val.{Fits}
-use lib.Dec.{leb}
-use borrow.Author.Tests.{leb-true, leb-false}
-use lib.ListN.{length, get_or, length-append, get_or-eq_default}
+use lib.Seq.{get_or-drop}
+use lib.ListN.{length, get_or, drop, length-append, get_or-eq_default}
 use Rattle.rows.specs.Bytes.{bytes_of, number_at, be16, be32, u16_at, u32_at, run, zeros}
 use Rattle.rows.proofs.Laws.{Holds, holds_self, holds-left, holds_right, holds-byte}
 use Rattle.rows.proofs.Held.{holds_nil, holds_one, holds-append}
@@ -30,14 +28,6 @@ unfolding number_at
 number_past zero l o h = refl
 number_past (suc n) l o h = let z : get_or l (o + n) 0 ≡ 0 = get_or-eq_default l 0 (omega arith) in rw (number_past n l o h, z)
 
--- at a place past the largest number, and at that number itself, what ends before it reads zero
-pub capped : (f : ℕ → ℕ) (end place most p : ℕ) → ((k : ℕ) → end ≤ k → f k ≡ 0) → p ≡ min place most → end ≤ most → f p ≡ f place
-capped f end place most p past e h = go (leb place most) refl
-  where
-    go : (t : Bool) → leb place most ≡ t → f p ≡ f place
-    go true t = ap f (omega (arith, leb-true place most t))
-    go false t = let high = leb-false place most t in past p (omega arith) ∙ sym (past place (omega arith))
-
 -- what bytes hold is read back
 pub holds-number : (n : ℕ) (l : List ℕ) (o x : ℕ) → x < 256 ^ n → Holds l o (bytes_of n x) → number_at n l o ≡ x
 unfolding bytes_of number_at
@@ -52,15 +42,16 @@ holds-number (suc n) l o x small h =
 pub number_back : (n x : ℕ) → x < 256 ^ n → number_at n (bytes_of n x) 0 ≡ x
 number_back n x small = holds-number n (bytes_of n x) 0 x small (holds_self (bytes_of n x))
 
--- ---- halves: two bytes are one and one, four are two and two
+-- ---- halves, read from what stands at o and after it: two bytes are one and one, four are two and two
 
-pub u16_halves : (l : List ℕ) (o : ℕ) → u16_at l o ≡ get_or l o 0 * 256 + get_or l (o + 1) 0
-unfolding number_at
-u16_halves l o = rw (add-zero o) (omega arith)
+module _ (l rest : List ℕ) (o : ℕ) (e : rest ≡ drop o l) where
+  pub u16_halves : u16_at l o ≡ get_or rest 0 0 * 256 + get_or rest 1 0
+  unfolding number_at
+  u16_halves = rw (e, get_or-drop o l 0 0, get_or-drop o l 1 0) (omega arith)
 
-pub u32_halves : (l : List ℕ) (o : ℕ) → u32_at l o ≡ u16_at l o * 65536 + u16_at l (o + 2)
-unfolding number_at
-u32_halves l o = rw (add-zero (o + 2), add_assoc o 2 1) (omega arith)
+  pub u32_halves : u32_at l o ≡ u16_at rest 0 * 65536 + u16_at rest 2
+  unfolding number_at
+  u32_halves = rw (e, get_or-drop o l 0 0, get_or-drop o l 1 0, get_or-drop o l 2 0, get_or-drop o l 3 0) (omega arith)
 
 -- zero is zero bytes
 pub zeros-number : (n : ℕ) → bytes_of n 0 ≡ zeros n

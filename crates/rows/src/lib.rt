@@ -2,7 +2,7 @@
 // write that does not fit wholly writes nothing. Document 01, "The world" and "Sheets and the printed record".
 #![tactic(auto)]
 
-ghost use Rattle.std.specs.Prelude.{◌≡◌, [], ◌∷◌, ◌+◌, min, leb, length, get_or, ◌==◌};
+ghost use Rattle.std.specs.Prelude.{◌≡◌, [], ◌∷◌, ◌+◌, min, leb, length, get_or, drop, ◌==◌};
 ghost use Rattle.std.specs.List.{list_all};
 ghost use Rattle.rows.specs.Bytes.{placed, be16, field_bytes, fields_of, u16_at, u32_at, zeros};
 ghost use Rattle.rows.specs.Tests.{all_zero};
@@ -119,19 +119,28 @@ pub fn put_fields(s: &mut [u8], at: usize, fields: &[Field])
     }
 }
 
+// What stands at `at` and after it.
+fn rest_at(s: &[u8], at: usize) -> &[u8]
+    ensures { result.now ≡ drop at s.now }
+{
+    &s[at.min(s.len())..]
+}
+
 pub fn read_u16(s: &[u8], at: usize) -> u16
     ensures { result ≡ u16_at s.now at }
 {
-    let high = byte_at(s, at);
-    let low = byte_at(s, at.saturating_add(1));
+    let rest = rest_at(s, at);
+    let high = byte_at(rest, 0);
+    let low = byte_at(rest, 1);
     u16::from_be_bytes([high, low])
 }
 
 pub fn read_u32(s: &[u8], at: usize) -> u32
     ensures { result ≡ u32_at s.now at }
 {
-    let high = read_u16(s, at) as u32;
-    let low = read_u16(s, at.saturating_add(2)) as u32;
+    let rest = rest_at(s, at);
+    let high = read_u16(rest, 0) as u32;
+    let low = read_u16(rest, 2) as u32;
     high * 65536 + low
 }
 
@@ -146,6 +155,6 @@ fn only_zeros(s: &[u8]) -> bool
 pub fn is_zero(s: &[u8], at: usize, n: usize) -> bool
     ensures { result ≡ all_zero s.now at n }
 {
-    let rest = &s[at.min(s.len())..];
+    let rest = rest_at(s, at);
     only_zeros(&rest[..n.min(rest.len())])
 }
