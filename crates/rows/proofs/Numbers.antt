@@ -5,10 +5,11 @@ use mathlib.Core.List.{List, [], ◌∷◌, ◌++◌}
 use Prim.Native.Nat.{ℕ, zero, suc, ◌+◌, ◌*◌, ◌^◌, ◌/◌, ◌%◌, ◌≤◌, ◌<◌}
 use native.Mathlib.Nat.{pow-zero, pow-suc}
 use native.Mathlib.Omega.{arith}
-use mir.Syntax.{w8}
+use mir.Syntax.{w8, w16, w32}
 use mir.Val.{Fits}
 use lib.Seq.{get_or-drop}
 use lib.ListN.{length, get_or, drop, length-append, get_or-eq_default}
+use Rattle.std.specs.Int.{to_be_bytes}
 use Rattle.rows.specs.Bytes.{bytes_of, number_at, be16, be32, u16_at, u32_at, run, zeros}
 use Rattle.rows.proofs.Laws.{Holds, holds_self, holds-left, holds_right, holds-byte}
 use Rattle.rows.proofs.Held.{holds_nil, holds_one, holds-append}
@@ -89,3 +90,15 @@ holds_u16 = holds-number 2
 
 pub holds_u32 : (l : List ℕ) (o x : ℕ) → x < 4294967296 → Holds l o (be32 x) → u32_at l o ≡ x
 holds_u32 = holds-number 4
+
+-- the library's bytes of a number are these
+pub be16-written : (x : ℕ) → to_be_bytes w16 x ≡ be16 x
+unfolding bytes_of
+be16-written x = refl
+
+pub be32-written : (x : ℕ) → to_be_bytes w32 x ≡ be32 x
+unfolding bytes_of
+be32-written x =
+    let third : x / 65536 ≡ x / 256 / 256 = omega arith in
+    let fourth : x / 16777216 ≡ x / 256 / 256 / 256 = omega arith in
+    rw (third, fourth)

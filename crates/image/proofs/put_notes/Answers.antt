@@ -13,7 +13,7 @@ use Rattle.image.proofs.Widths.{length-sequence, length_notes}
 use Rattle.image.proofs.put_notes.Goals as goal
 
 pub returns-then-not-has_room : goal.returns-then-not-has_room
-returns-then-not-has_room c = 
+returns-then-not-has_room c =
     let past = leb-false _ _ (sym c.has_room.ensures ∙ c.if-not-has_room.true) in
     sym (placed_not _ _ _ (omega (arith, length_notes (notes_of c.args.n))))
 

@@ -21,7 +21,7 @@ none [] e = sym sequence-zeros
 none (x ∷ l) e = absurd (omega arith)
 
 pub returns-then-not-has_room : goal.returns-then-not-has_room
-returns-then-not-has_room c = 
+returns-then-not-has_room c =
     let past = leb-false _ _ (sym c.has_room.ensures ∙ c.if-not-has_room.true) in
     sym (placed_not _ _ _ (omega (arith, length-sequence (views_of c.args.q))))
 

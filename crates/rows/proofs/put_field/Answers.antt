@@ -1,10 +1,9 @@
 -- `rows::put_field` meets its contract. Assumes nothing.
 use mathlib.Core.Path.{◌≡◌, refl, ap, ◌∙◌}
 use mathlib.Core.Bool.{Bool, true, false, cond}
-use Prim.Native.Nat.{◌/◌}
-use native.Mathlib.Omega.{arith}
 use mir.Val.{bool_byte}
-use Rattle.rows.specs.Bytes.{placed, bytes_of, field_bytes}
+use Rattle.rows.specs.Bytes.{placed, field_bytes}
+use Rattle.rows.proofs.Numbers.{be32-written}
 use Rattle.rows.proofs.put_field.Goals as goal
 
 flag : (b : Bool) → bool_byte b ≡ cond b 1 0
@@ -24,12 +23,8 @@ unfolding field_bytes
 returns-in-U16 c = rw c.in-U16.is c.put_u16.ensures
 
 pub returns-in-U32 : goal.returns-in-U32
-unfolding field_bytes bytes_of
-returns-in-U32 c =
-    let x = c.in-U32.x in
-    let third : x / 65536 ≡ x / 256 / 256 = omega arith in
-    let fourth : x / 16777216 ≡ x / 256 / 256 / 256 = omega arith in
-    rw c.in-U32.is (c.put_bytes.ensures ∙ ap (placed _ _) (c.to_be_bytes.ensures ∙ rw (third, fourth)))
+unfolding field_bytes
+returns-in-U32 c = rw c.in-U32.is (c.put_bytes.ensures ∙ ap (placed _ _) (c.to_be_bytes.ensures ∙ be32-written c.in-U32.x))
 
 pub returns-in-Zeros : goal.returns-in-Zeros
 unfolding field_bytes
