@@ -1,33 +1,37 @@
 -- Laws of what a part shows, and of the rules at it. Assumes nothing.
-use Rattle.std.specs.Prelude.{if◌then◌else◌}
+use Rattle.std.specs.Prelude.{Option, None, Some, Ok, MatchOption, IsTrue, if◌then◌else◌}
 use mathlib.Core.Path.{◌≡◌, refl, sym, ap, ◌∙◌}
-use mathlib.Core.Bool.{Bool, true, false, ◌&&◌, and-true}
+use mathlib.Core.Bool.{Bool, true, false, and-true}
 use mathlib.Core.List.{List, [], ◌∷◌}
-use Prim.Native.Nat.{ℕ, ◌*◌, ◌%◌, ◌^◌, ◌<◌}
-use native.Mathlib.Nat.{one-mul}
+use Prim.Native.Nat.{ℕ, ◌<◌}
 use native.Mathlib.Omega.{arith}
-use lib.Dec.{eqb}
+use lib.Dec.{eqb, lit<}
 use lib.ListN.{length}
-use lib.Pow.{shl_exact, pow-add}
 use lib.Seq.{take_all}
 use Rattle.views.specs.declared.Sequence.{Sequence}
 use Rattle.views.specs.Row.{views_of, row_of}
-use Rattle.views.proofs.Truth.{cases, contrary}
 use Rattle.views.proofs.Rows.{views_length, held}
-use Rattle.rules.specs.Sets.{joins, leaves, member, inside, none, beyond, all}
+use Rattle.rules.specs.Sets.{inside, beyond, all}
 use Rattle.rules.specs.Stamps.{Pair}
-use Rattle.rules.specs.Messages.{Sending, view_reply, pair_reply, ack, Event, Answer, refused, does, quietly}
-use Rattle.rules.specs.State.{Generator, Transfer, Relay, with_known, with_active}
+use Rattle.rules.specs.Messages.{Body, Refusal, bad_world, bad_step, empty, dead, not_now, not_yet, worn, no_room, number, Answer, refused, does, quietly, sends}
+use Rattle.rules.specs.State.{Generator, Transfer, Relay, no_relay, with_known, with_active}
 use Rattle.rules.specs.Generators.{put_generator, with_own, hears}
-use Rattle.rules.specs.Relays.{is_for, at_generator, learns, fresh_transfer, transfer_for, put_transfer, keeps, gathers, passes, onward, enters, tested, takes_install, sent_first, relay_hears}
+use Rattle.rules.specs.Relays.{is_for, learns, transfer_for, put_transfer, keeps, gathers, sent_first}
 use Rattle.rules.proofs.Generators.{settles-leaves}
 use Rattle.rules.proofs.Lists.{those_fewer}
 use Rattle.rules.proofs.Transfers.{found_old, found_new}
 use Rattle.state.specs.declared.Transfer as code
-use Rattle.state.specs.Meaning.{as_list, transfer_of}
+use Rattle.state.specs.declared.Sending as code-sending
+use Rattle.state.specs.declared.Body as code-body
+use Rattle.state.specs.declared.Event.TheVariants.{Nothing}
+use Rattle.state.specs.declared.Part.{Part}
+use Rattle.state.specs.declared.Plan.{Plan}
+use Rattle.state.specs.Meaning.{listed, transfer_of, part_of, body_of, sending_of}
+use Rattle.state.specs.Plans.{Planned, plan_of, planned}
+use Rattle.messages.specs.Made.{send_to, plan_of_all}
+use Rattle.messages.proofs.Plans.{quiet_says, one_says, first_says}
 use Rattle.generator.specs.Heard.{merged_in_row, hears_in_row, heard_in_row}
-use Rattle.relay.specs.Fitting.{shows_both, fitting, hears_answer}
-use Rattle.relay.specs.Fitting as relay
+use Rattle.relay.specs.Fitting.{shows_both}
 
 -- ---- sequences
 
@@ -48,28 +52,24 @@ known_either r v = known_if (inside r.known v) r v
 
 -- ---- what a part shows is at most one
 
-pub put_generator_lem : (b : Bool) (h g : Generator) (v : ℕ) → all (λ x. eqb x.view v) (as_list b h) ≡ true → g.view ≡ v → put_generator g (as_list b h) ≡ g ∷ []
-unfolding all put_generator
-put_generator_lem true h g v shown e = rw (e, sym (and-true (eqb h.view v)) ∙ shown)
-put_generator_lem false h g v shown e = refl
+pub all_shown : {A B : Type 0} (means : A → B) (test : B → Bool) (shown : Option A) (r : Bool) (P : A → Type 0) → MatchOption shown (IsTrue r) P
+    → ((x : A) → P x → r ≡ test (means x)) → r ≡ all test (listed means shown)
+unfolding all
+all_shown means test (Some x) r P h e = e x h ∙ sym (and-true (test (means x)))
+all_shown means test None r P h e = h
 
-pub put_transfer_lem : (b : Bool) (u t : Transfer) → all (is_for t.old t.new) (as_list b u) ≡ true → put_transfer t (as_list b u) ≡ t ∷ []
-unfolding all put_transfer
-put_transfer_lem true u t shown = rw (sym (and-true (is_for t.old t.new u)) ∙ shown)
-put_transfer_lem false u t shown = refl
+module _ {A : Type 0} where
+  pub put_generator_lem : (means : A → Generator) (shown : Option A) (g : Generator) → all (λ x. eqb x.view g.view) (listed means shown) ≡ true
+      → put_generator g (listed means shown) ≡ g ∷ []
+  unfolding all put_generator
+  put_generator_lem means (Some h) g e = rw (sym (and-true (eqb (means h).view g.view)) ∙ e)
+  put_generator_lem means None g e = refl
 
-pub transfer_shown : (b x : Bool) (o w : ℕ) (u : Transfer) → b ≡ true → all (is_for o w) (as_list b u) ≡ x → transfer_for o w (as_list b u) ≡ (if x then u else fresh_transfer o w)
-unfolding all transfer_for
-transfer_shown true x o w u e s = rw (sym (and-true (is_for o w u)) ∙ s)
-transfer_shown false x o w u e s = absurd (contrary e refl)
-
--- ---- updates, as a shift makes them
-
-pub one_shl : (s w : ℕ) → s < w → 1 * 2 ^ s % 2 ^ w ≡ joins s
-one_shl s w h = shl_exact {a = 1} 1 s w (omega arith) (omega arith) ∙ one-mul (2 ^ s)
-
-pub high_shl : (s : ℕ) → s < 8 → 256 * 2 ^ s % 2 ^ 16 ≡ leaves s
-high_shl s h = shl_exact {a = 256} 9 s 16 (omega arith) (omega arith) ∙ sym (pow-add 2 8 s)
+  pub put_transfer_lem : (means : A → Transfer) (shown : Option A) (t : Transfer) → all (is_for t.old t.new) (listed means shown) ≡ true
+      → put_transfer t (listed means shown) ≡ t ∷ []
+  unfolding all put_transfer
+  put_transfer_lem means (Some u) t e = rw (sym (and-true (is_for t.old t.new (means u))) ∙ e)
+  put_transfer_lem means None t e = refl
 
 -- ---- the rules at a generator and at a transfer leave its views
 
@@ -91,28 +91,35 @@ module _ (r t : code.Transfer) (o w : ℕ) (ts : List Transfer) (found : transfe
   unfolding transfer_of gathers
   gathered-pair from p u e = same_pair (ap (λ (u : Transfer). u.old) e) (ap (λ (u : Transfer). u.new) e)
 
--- ---- an install is never refused past its first test
+-- ---- the plans that are made
 
-pub record Done (a : Answer Relay) : Type 0 where
-  pub next : Relay
-  pub sent : List Sending
-  pub event : Event
-  pub is : a ≡ does next sent event
+pub quietly_says : {p : Plan Part} (next : Part) → p ≡ plan_of_all next [] Nothing → plan_of (Ok p) ≡ planned no_relay (quietly (part_of next))
+unfolding plan_of
+quietly_says next h = quiet_says part_of no_relay next h
 
-done : (r : Relay) (ss : List Sending) (e : Event) → Done (does r ss e)
-done r ss e = record { next = r; sent = ss; event = e; is = refl }
+pub sends_says : {p : Plan Part} (next : Part) (s : code-sending.Sending) {n : ℕ} {b : code-body.Body} {x : Body}
+    → p ≡ plan_of_all next (s ∷ []) Nothing → s ≡ send_to n b → body_of b ≡ x
+    → plan_of (Ok p) ≡ planned no_relay (sends (part_of next) (record { body = x; receivers = n } ∷ []))
+unfolding plan_of
+sends_says next s h e f = one_says part_of no_relay next s h e f
 
-enters-done : (r : Relay) (t : Transfer) → Done (enters r t)
-unfolding enters at_generator
-enters-done r t = cases Done (none (onward t)) (λ e. done _ _ _) (λ e. done _ _ _)
+-- ---- an install: a plan is no refusal, so what is sent first goes before what the rule sends
 
-tested-done : (r : Relay) (t : Transfer) → Done (tested r t)
-unfolding tested
-tested-done r t = cases Done (passes t) (λ e. enters-done _ _) (λ e. done _ _ _)
+number_pos : (x : Refusal) → 0 < number x
+number_pos bad_world = lit< tt
+number_pos bad_step = lit< tt
+number_pos empty = lit< tt
+number_pos dead = lit< tt
+number_pos not_now = lit< tt
+number_pos not_yet = lit< tt
+number_pos worn = lit< tt
+number_pos no_room = lit< tt
 
-pub install-done : (s : ℕ) (r : Relay) (o w : ℕ) (q : List ℕ) → Done (takes_install s r o w q)
-unfolding takes_install
-install-done s r o w q = cases Done (inside r.view w && member w s) (λ e. tested-done _ _) (λ e. done _ _ _)
+pub first_answer : {p : Plan Part} (s : code-sending.Sending) (later : Plan Part) (x : Answer Relay) → p ≡ plan_of_all later.next (s ∷ later.sends.of) later.event
+    → plan_of (Ok later) ≡ planned no_relay x → plan_of (Ok p) ≡ planned no_relay (sent_first (sending_of s ∷ []) x)
+unfolding plan_of planned
+first_answer s later (does a ss e) h k = first_says part_of no_relay s later a ss e h k
+first_answer s later (refused x) h k = absurd (omega (arith, number_pos x, ap (λ (q : Planned Relay). q.answer) k))
 
 pub sent-none : (a : Answer Relay) → sent_first [] a ≡ a
 sent-none (refused x) = refl
@@ -123,12 +130,3 @@ pub stopped_shows : (b : Bool) (r : Relay) (o w : ℕ) → shows_both o w r ≡ 
 unfolding with_active
 stopped_shows true r o w e = e
 stopped_shows false r o w e = e
-
--- ---- replies go to desks only
-
-pub replies : (s : ℕ) (r : Relay) (from try v : ℕ) (p : Pair) (x y : Bool)
-    → hears_answer s r from (if x then view_reply try v else if y then pair_reply try p else ack try) ≡ quietly r
-unfolding hears_answer relay.hears_in_row relay_hears fitting
-replies s r from try v p true y = refl
-replies s r from try v p false true = refl
-replies s r from try v p false false = refl

@@ -27,64 +27,51 @@ pub(crate) fn fresh(o: u16, w: u16) -> Transfer
 pub(crate) fn transfer_for(p: Part, o: u16, w: u16) -> Transfer
     ensures { transfer_of result ≡ rules.transfer_for o w (part_of p).transfers }
 {
-    if !p.transfers {
-        return fresh(o, w);
+    match p.transfer {
+        Some(t) if t.old == o && t.new == w => t,
+        _ => fresh(o, w),
     }
-    if !super::parts::shows_move(p, o, w) {
-        return fresh(o, w);
-    }
-    p.transfer
 }
 
 pub(crate) fn with_transfer(p: Part, t: Transfer) -> Part
     ensures { part_of result ≡ with_transfers (part_of p) (transfer_of t ∷ []) }
 {
-    let mut r = p;
-    r.transfers = true;
-    r.transfer = t;
-    r
+    Part {
+        transfer: Some(t),
+        ..p
+    }
 }
 
 // "the transfer keeps q unless it has one already"
 pub(crate) fn keeps(t: Transfer, q: Sequence) -> Transfer
     ensures { transfer_of result ≡ rules.keeps (transfer_of t) (views_of q) }
 {
-    let held = t.sequence;
-    if 0 < views::count(held) {
-        return t;
+    if 0 < views::count(t.sequence) {
+        t
+    } else {
+        Transfer { sequence: q, ..t }
     }
-    let mut r = t;
-    r.sequence = q;
-    r
 }
 
 // "Entry test: install present and a quorum of o has sent state."
 pub(crate) fn passes(t: Transfer) -> bool
     ensures { result ≡ rules.passes (transfer_of t) }
 {
-    let q = t.sequence;
-    if views::count(q) == 0 {
-        return false;
-    }
-    views::reaches(t.old, t.senders)
+    0 < views::count(t.sequence) && views::reaches(t.old, t.senders)
 }
 
 // The views above w.
 pub(crate) fn onward(t: Transfer) -> Sequence
     ensures { views_of result ≡ rules.onward (transfer_of t) }
 {
-    let q = t.sequence;
-    views::beyond(t.new, q)
+    views::beyond(t.new, t.sequence)
 }
 
 // The view known after v is told.
 pub(crate) fn newer(known: u16, v: u16) -> u16
     ensures { result ≡ (if inside known v then v else known) }
 {
-    if views::inside(known, v) {
-        return v;
-    }
-    known
+    if views::inside(known, v) { v } else { known }
 }
 
 // "who keeps it as known view if the one known is inside it."
@@ -92,9 +79,10 @@ pub(crate) fn learns(p: Part, v: u16) -> Part
     ensures { part_of result ≡ rules.learns (part_of p) v }
 {
     let known = newer(p.head.known, v);
-    let mut r = p;
-    r.head.known = known;
-    r
+    Part {
+        head: Head { known, ..p.head },
+        ..p
+    }
 }
 
 // The updates of a that are not in b.
@@ -109,59 +97,49 @@ pub(crate) fn moved(p: Part, t: Transfer, active: bool) -> Part
     ensures { part_of result ≡ rules.moved (with_transfers (part_of p) (transfer_of t ∷ [])) (transfer_of t) active }
 {
     let w = t.new;
-    let best = t.best;
     let head = Head {
-        alive: p.head.alive,
         entered: true,
-        active: active,
+        active,
         view: w,
         known: newer(p.head.known, w),
         pending: less(views::join(p.head.pending, t.gathered), w),
-        holds: best,
+        holds: t.best,
+        ..p.head
     };
-    let mut r = p;
-    r.head = head;
-    r.transfers = false;
-    r
+    Part {
+        head,
+        transfer: None,
+        ..p
+    }
 }
 
 // "NOT YET exactly if the receiver is a member of o and its own view neither equals nor includes o (view 0 never does)."
 pub(crate) fn early(s: u8, p: Part, o: u16) -> bool
     ensures { result ≡ rules.early s (part_of p) o }
 {
-    if !views::is_member(o, s) {
-        return false;
-    }
-    if p.head.view == o {
-        return false;
-    }
-    !views::inside(o, p.head.view)
+    views::is_member(o, s) && p.head.view != o && !views::inside(o, p.head.view)
 }
 
 // "A member of o, if its view is inside w, stops being active;"
 pub(crate) fn stopped(s: u8, p: Part, o: u16, w: u16) -> Part
     ensures { part_of result ≡ rules.stopped s (part_of p) o w }
 {
-    if !views::is_member(o, s) {
-        return p;
+    if views::is_member(o, s) && views::inside(p.head.view, w) {
+        Part {
+            head: Head {
+                active: false,
+                ..p.head
+            },
+            ..p
+        }
+    } else {
+        p
     }
-    if !views::inside(p.head.view, w) {
-        return p;
-    }
-    let mut r = p;
-    r.head.active = false;
-    r
 }
 
 // "NOT YET unless active and c equals the own view or is inside it."
 pub(crate) fn serves(p: Part, c: u16) -> bool
     ensures { result ≡ rules.serves (part_of p) c }
 {
-    if !p.head.active {
-        return false;
-    }
-    if c == p.head.view {
-        return true;
-    }
-    views::inside(c, p.head.view)
+    p.head.active && (c == p.head.view || views::inside(c, p.head.view))
 }

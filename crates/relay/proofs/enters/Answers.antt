@@ -1,33 +1,31 @@
 -- `relay::enters` meets its contract. Assumes nothing.
 use mathlib.Core.Path.{◌≡◌, sym, ap, ◌∙◌}
 use mathlib.Core.Bool.{true, false}
-use mathlib.Core.List.{List}
+use mathlib.Core.List.{List, []}
 use Prim.Native.Nat.{ℕ}
 use native.Mathlib.Omega.{arith}
 use Rattle.views.specs.Row.{views_of}
 use Rattle.rules.specs.Sets.{none}
-use Rattle.rules.specs.State.{with_transfers}
+use Rattle.rules.specs.State.{no_relay, with_transfers}
 use Rattle.rules.specs.Generators.{generator_for, proposes}
 use Rattle.rules.specs.Relays.{moved, onward, enters}
 use Rattle.state.specs.Meaning.{transfer_of, part_of, event_of}
-use Rattle.state.specs.Plans.{turn_of, turned}
+use Rattle.state.specs.Plans.{turn_of, turned, plan_of}
+use Rattle.state.specs.declared.Event.TheVariants.{Opened}
+use Rattle.messages.proofs.Plans.{plan_says}
 use Rattle.rules.proofs.Lists.{none_test, some_test}
 use Rattle.rules.proofs.Generators.{view_of, proposes-leaves}
 use Rattle.relay.proofs.enters.Goals as goal
 
 pub returns-then-count-eq0 : goal.returns-then-count-eq0
-unfolding enters transfer_of event_of
+unfolding enters transfer_of event_of plan_of
 returns-then-count-eq0 c =
     let n : none (onward (transfer_of c.args.t)) ≡ true = ap (λ (l : List ℕ). none l) (sym c.onward-onward.ensures)
     ∙ none_test (views_of c.onward-onward.result) (omega (arith, c.count.ensures.0, c.if-count-eq0.true)) in
-    c.tells.ensures ∙ rw (c.moved.ensures, n)
-
-pub at_generator-requires : goal.at_generator-requires
-unfolding moved with_transfers
-at_generator-requires c = rw c.moved-2.ensures c.requires
+    plan_says part_of no_relay c.moved.result [] (Opened c.args.t.new) c.tells.ensures ∙ rw (c.moved.ensures, n)
 
 pub returns : goal.returns
-unfolding enters transfer_of with_transfers
+unfolding enters transfer_of with_transfers moved
 returns c =
     let t = transfer_of c.args.t in
     let n : none (onward (transfer_of c.args.t)) ≡ false = ap (λ (l : List ℕ). none l) (sym c.onward-onward.ensures)
@@ -37,4 +35,5 @@ returns c =
       c.generator_for.ensures,
       c.onward-onward.ensures,
     ) in
-    c.at_generator.ensures (proposes g (onward t)) ((proposes-leaves g _).for ∙ view_of _ _) e ∙ rw (c.moved-2.ensures, n)
+    c.at_generator.ensures (proposes g (onward t)) (rw ((proposes-leaves g (onward t)).for ∙ view_of _ _, c.moved-2.ensures) c.requires) e
+    ∙ rw (c.moved-2.ensures, n)

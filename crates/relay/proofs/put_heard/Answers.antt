@@ -7,4 +7,4 @@ use Rattle.relay.proofs.put_heard.Goals as goal
 
 pub returns : goal.returns
 unfolding put_heard with_holds part_of relay_of
-returns c = rw (made_says _ _ c.ack.ensures none, c.greatest-best.ensures) at c.served.ensures
+returns c = rw (made_says _ _ c.ack.ensures none, c.greatest.ensures) at c.served.ensures

@@ -10,6 +10,6 @@ pub returns-then-count-gt0 : goal.returns-then-count-gt0
 unfolding transfer_of keeps
 returns-then-count-gt0 c = rw (some_test (views_of c.args.t.sequence) (omega (arith, c.count.ensures.0, c.if-count-gt0.true)))
 
-pub returns : goal.returns
+pub returns-else-count-gt0 : goal.returns-else-count-gt0
 unfolding transfer_of keeps
-returns c = rw (none_test (views_of c.args.t.sequence) (omega (arith, c.count.ensures.0, c.if-count-gt0.false)))
+returns-else-count-gt0 c = rw (none_test (views_of c.args.t.sequence) (omega (arith, c.count.ensures.0, c.if-count-gt0.false)))
