@@ -1,15 +1,16 @@
 -- Good bytes, part by part: what is read of them is what the world that they mean has there. Assumes nothing.
+use Rattle.std.specs.Prelude.{Option, None, Some, is_some, IfSome}
 use mathlib.Core.Path.{◌≡◌, refl, sym, ap, ◌∙◌}
-use mathlib.Core.Logic.{⊎_elim}
-use mathlib.Core.Bool.{Bool, true, false, not, ◌&&◌}
-use mathlib.Core.List.{List}
+use mathlib.Core.Logic.{◌≢◌, ⊎_elim}
+use mathlib.Core.Bool.{true, false, not}
+use mathlib.Core.List.{List, [], ◌∷◌}
 use Prim.Native.Nat.{ℕ, ◌+◌, ◌-◌, ◌<◌}
 use native.Mathlib.Nat.{zero-add}
 use native.Mathlib.Omega.{arith}
 use lib.Dec.{eqb, ltb}
 use lib.ListN.{get_or-eq_default, length, get_or}
-use borrow.Author.Tests.{lt-ltb, not-true, ltb-true, ltb-false}
-use Rattle.views.proofs.Truth.{decided}
+use borrow.Author.Tests.{eq-eqb, eqb-true, not-true, ltb-true, ltb-false}
+use Rattle.views.proofs.Truth.{decided, contrary}
 use Rattle.rows.specs.Bytes.{u16_at}
 use Rattle.rows.proofs.Laws.{get_d_tab}
 use Rattle.rules.specs.State.{Generator, Transfer, Relay, no_relay, no_desk, free}
@@ -25,7 +26,9 @@ use Rattle.layout.proofs.Fits.{RelayFits}
 use Rattle.layout.proofs.World.{no_relay_lem, no_place, Shaped, WorldFits, world_fits, good_formed, good_image}
 use Rattle.layout.proofs.Read.{read_generator, read_transfer}
 use Rattle.state.specs.declared.Head.{Head}
-use Rattle.state.specs.Meaning.{relay_of, as_list}
+use Rattle.state.specs.declared.Generator as code-generator
+use Rattle.state.specs.declared.Transfer as code-transfer
+use Rattle.state.specs.Meaning.{generator_of, transfer_of, relay_of, listed}
 use Rattle.image.specs.Parts.{head_at}
 use Rattle.locality.specs.Narrow.{Move, move, with_tables, narrow}
 use Rattle.world.specs.Commits.{First, row_of, ends_view, ends_move}
@@ -33,6 +36,14 @@ use Rattle.locality.proofs.Table.{by_view, by_move}
 use Rattle.locality.proofs.Seat.{present}
 use Rattle.locality.proofs.Part.{seat_of_view, seat_of_move, generator_there, generator_absent, transfer_there, transfer_absent}
 use Rattle.world.proofs.Lists.{seat_found}
+
+-- ---- whether a number is 0
+
+unfilled : (n : ℕ) → false ≡ not (eqb n 0) → n ≡ 0
+unfilled n e = ⊎_elim (λ t. eqb-true n 0 t) (λ t. absurd (contrary (rw t at e) refl)) (decided (eqb n 0))
+
+filled : (n : ℕ) → true ≡ not (eqb n 0) → n ≢ 0
+filled n e z = contrary (eq-eqb n 0 z) (not-true _ (sym e))
 
 -- ---- whatever the bytes are
 
@@ -123,46 +134,48 @@ module _ (b : List ℕ) (good : good_bytes b ≡ true) where
         seat_found r.transfers (fresh_transfer 0 0) (λ t. eqb t.new 0) (is_for o n) 8 (ends_move b (transfers_begin s) o n)
         rows.transfers.few refl filled_new (λ k h. rw (row_new k h, row_old k h)) i f
 
-    -- so what the part shows
-    module _ (v : ℕ) (m : Move) (i : ℕ) (there : Bool) (g : Generator) where
-      pub generators_shown : First 8 (ends_view b (generators_begin s) v) i → there ≡ (ltb i 8 && not (eqb (u16_at b (generator_begin s i)) 0))
-          → (there ≡ true → g ≡ generator_at b (generator_begin s i)) → as_list there g ≡ (narrow r v m).generators
-      generators_shown f e k =
+    -- so what the part shows: nothing where the search finds no row, or one that is not filled
+    module _ (v : ℕ) (m : Move) (i : ℕ) (f : First 8 (ends_view b (generators_begin s) v) i) where
+      pub no_generator : (i < 8 → u16_at b (generator_begin s i) ≡ 0) → [] ≡ (narrow r v m).generators
+      no_generator e =
           let at = seat_view v i f in
           let few = rows.generators.few in
-          ⊎_elim (λ h. yes at (omega arith) (omega arith)) (λ h. no at (omega arith)) (present by_view v r.generators)
-        where
-          yes : seat_of_view v r.generators ≡ i → i < length r.generators → i < 8 → as_list there g ≡ (narrow r v m).generators
-          yes at h l =
-              let t : there ≡ true = e ∙ rw (lt-ltb i 8 l, row-view i l, filled_view i h) in
-              rw (t, k t, generator_row i l, generator_there s r (good_relay_lem s) v m (rw at h), at)
+          ⊎_elim (λ h. absurd (contrary (eq-eqb _ 0 (sym (row-view i (omega arith)) ∙ e (omega arith))) (filled_view i (omega arith))))
+          (λ h. sym (generator_absent s r (good_relay_lem s) v m h)) (present by_view v r.generators)
 
-          none : i ≡ length r.generators → ltb i 8 && not (eqb (u16_at b (generator_begin s i)) 0) ≡ false
-          none h =
-              ⊎_elim (λ l. let q = row-view i (ltb-true i 8 l) ∙ ap (λ (x : Generator). x.view) (get_or-eq_default r.generators (fresh 0) {n = i} (omega arith)) in rw (l, q) (unfold fresh in refl)) (λ l. rw l) (decided (ltb i 8))
+      pub a_generator : i < 8 → u16_at b (generator_begin s i) ≢ 0 → generator_at b (generator_begin s i) ∷ [] ≡ (narrow r v m).generators
+      a_generator l e =
+          let at = seat_view v i f in
+          ⊎_elim (λ h. rw (generator_row i l, generator_there s r (good_relay_lem s) v m h, at))
+          (λ h. absurd (e (row-view i l ∙ ap (λ (x : Generator). x.view) (get_or-eq_default r.generators (fresh 0) {n = i} (omega arith)) ∙ (unfold fresh in refl))))
+          (present by_view v r.generators)
 
-          no : seat_of_view v r.generators ≡ i → i ≡ length r.generators → as_list there g ≡ (narrow r v m).generators
-          no at h = rw (e ∙ none h, generator_absent s r (good_relay_lem s) v m (at ∙ h))
+      -- the row is read only where it is filled
+      pub generator_shown : i < 8 → (x : Option code-generator.Generator) → is_some x ≡ not (eqb (u16_at b (generator_begin s i)) 0)
+          → IfSome x (λ g. generator_of g ≡ generator_at b (generator_begin s i)) → listed generator_of x ≡ (narrow r v m).generators
+      generator_shown l None e k = no_generator (λ h. unfilled _ e)
+      generator_shown l (Some g) e k = rw k (a_generator l (filled _ e))
 
-    module _ (v o n i : ℕ) (there : Bool) (t : Transfer) where
-      pub transfers_shown : First 8 (ends_move b (transfers_begin s) o n) i → there ≡ (ltb i 8 && not (eqb (u16_at b (transfer_begin s i + transfer_new)) 0))
-          → t ≡ transfer_at b (transfer_begin s i) → as_list there t ≡ (narrow r v (move o n)).transfers
-      transfers_shown f e k =
+    module _ (v o n i : ℕ) (f : First 8 (ends_move b (transfers_begin s) o n) i) where
+      pub no_transfer : (i < 8 → u16_at b (transfer_begin s i + transfer_new) ≡ 0) → [] ≡ (narrow r v (move o n)).transfers
+      no_transfer e =
           let at = seat_move o n i f in
           let few = rows.transfers.few in
-          ⊎_elim (λ h. yes at (omega arith) (omega arith)) (λ h. no at (omega arith)) (present by_move (move o n) r.transfers)
-        where
-          yes : seat_of_move (move o n) r.transfers ≡ i → i < length r.transfers → i < 8 → as_list there t ≡ (narrow r v (move o n)).transfers
-          yes at h l =
-              let q : there ≡ true = e ∙ rw (lt-ltb i 8 l, row_new i l, filled_new i h) in
-              rw (q, k, transfer_row i l, transfer_there s r (good_relay_lem s) v (move o n) (rw at h), at)
+          ⊎_elim (λ h. absurd (contrary (eq-eqb _ 0 (sym (row_new i (omega arith)) ∙ e (omega arith))) (filled_new i (omega arith))))
+          (λ h. sym (transfer_absent s r (good_relay_lem s) v (move o n) h)) (present by_move (move o n) r.transfers)
 
-          none : i ≡ length r.transfers → ltb i 8 && not (eqb (u16_at b (transfer_begin s i + transfer_new)) 0) ≡ false
-          none h =
-              ⊎_elim (λ l. let q = row_new i (ltb-true i 8 l) ∙ ap (λ (x : Transfer). x.new) (get_or-eq_default r.transfers (fresh_transfer 0 0) {n = i} (omega arith)) in rw (l, q) (unfold fresh_transfer in refl)) (λ l. rw l) (decided (ltb i 8))
+      pub a_transfer : i < 8 → u16_at b (transfer_begin s i + transfer_new) ≢ 0 → transfer_at b (transfer_begin s i) ∷ [] ≡ (narrow r v (move o n)).transfers
+      a_transfer l e =
+          let at = seat_move o n i f in
+          ⊎_elim (λ h. rw (transfer_row i l, transfer_there s r (good_relay_lem s) v (move o n) h, at))
+          (λ h. absurd (e (row_new i l ∙ ap (λ (x : Transfer). x.new) (get_or-eq_default r.transfers (fresh_transfer 0 0) {n = i} (omega arith)) ∙ (unfold fresh_transfer in refl))))
+          (present by_move (move o n) r.transfers)
 
-          no : seat_of_move (move o n) r.transfers ≡ i → i ≡ length r.transfers → as_list there t ≡ (narrow r v (move o n)).transfers
-          no at h = rw (e ∙ none h, transfer_absent s r (good_relay_lem s) v (move o n) (at ∙ h))
+      -- the row is read only where it is filled
+      pub transfer_shown : i < 8 → (x : Option code-transfer.Transfer) → is_some x ≡ not (eqb (u16_at b (transfer_begin s i + transfer_new)) 0)
+          → IfSome x (λ u. transfer_of u ≡ transfer_at b (transfer_begin s i)) → listed transfer_of x ≡ (narrow r v (move o n)).transfers
+      transfer_shown l None e k = no_transfer (λ h. unfilled _ e)
+      transfer_shown l (Some u) e k = rw k (a_transfer l (filled _ e))
 
     pub part_is : (v : ℕ) (m : Move) (h : Head) (gs : List Generator) (ts : List Transfer) → h ≡ head_at b (relay_begin s) → gs ≡ (narrow r v m).generators → ts ≡ (narrow r v m).transfers
         → relay_of h gs ts ≡ narrow r v m

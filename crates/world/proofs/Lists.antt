@@ -1,46 +1,49 @@
--- Lists, as the loops of this crate ask for them: the first that passes, the part that passes of a list that grows, and one place written with what it holds.
+-- Lists, as the searches, counts and loops of this crate ask for them: the first that passes, the part that passes of a list that grows, and one place written with what it holds.
 -- Assumes nothing.
-use Rattle.std.specs.Prelude.{if◌then◌else◌}
+use Rattle.std.specs.Prelude.{if◌then◌else◌, Option, None, Some, MatchOption, filter}
+use Rattle.std.specs.List.{range_with_len}
+use Rattle.std.proofs.lemmas.List.{map-id}
+use Rattle.std.proofs.lemmas.List.FromFn.{length-range_with_len, map-range_with_len_more}
+use Rattle.std.proofs.lemmas.List.Sums.{length-filter, count_by-le-length}
 use mathlib.Core.Path.{◌≡◌, refl, sym, ap, ◌∙◌}
 use mathlib.Core.Logic.{⊎_elim}
 use mathlib.Core.Bool.{Bool, true, false, ◌||◌}
-use mathlib.Core.List.{List, [], ◌∷◌, ◌++◌, append-nil}
+use mathlib.Core.List.{List, [], ◌∷◌, ◌++◌, append-nil, map}
 use Prim.Native.Nat.{ℕ, zero, suc, ◌+◌, ◌≤◌, ◌<◌}
 use native.Mathlib.Numerals.{add-one}
-use native.Mathlib.Decide.{ℕ_discrete}
 use native.Mathlib.Omega.{arith}
-use lib.Dec.{leb}
-use lib.ListN.{get_or-eq_default, length, get_or, set}
-use borrow.Author.Tests.{leb-true, leb-false}
+use lib.Dec.{leb, ltb}
+use lib.ListN.{get_or-eq_default, length, get_or, set, length-append}
+use borrow.Author.Tests.{leb-true, leb-false, ltb-true, ltb-false}
 use Rattle.views.proofs.Truth.{decided, contrary, neither_true, either_true}
 use Rattle.rows.specs.Bytes.{tab}
 use Rattle.rules.specs.Sets.{those}
 use Rattle.rules.proofs.Lists.{those-append}
-use Rattle.world.specs.Commits.{First}
+use Rattle.world.specs.Commits.{First, Found}
 use Rattle.locality.proofs.Seat.{seat, seat_is}
 
--- ---- a search from 0 on
+-- ---- a search from low on, none below which passes
 
--- none below i passes
-pub record Missed (n : ℕ) (f : ℕ → Bool) (i : ℕ) : Type 0 where
-  pub within : i ≤ n
-  pub below : (k : ℕ) → k < i → f k ≡ false
-
-pub missed_none : {n : ℕ} {f : ℕ → Bool} → Missed n f 0
-missed_none {n} {f} = record { within = omega arith; below = λ k h. absurd (omega arith) }
-
-pub missed_more : {n : ℕ} {f : ℕ → Bool} {i : ℕ} → Missed n f i → i < n → f i ≡ false → Missed n f (i + 1)
-missed_more {n} {f} {i} m h e = record { within = omega arith; below = λ k p. go k p (ℕ_discrete k i) }
-  where
-    go : (k : ℕ) → k < i + 1 → Dec (k ≡ i) → f k ≡ false
-    go k p (yes q) = rw q e
-    go k p (no q) = m.below k (omega arith)
-
-pub found_first : {n : ℕ} {f : ℕ → Bool} {i : ℕ} → Missed n f i → i < n → f i ≡ true → First n f i
-found_first {n} {f} {i} m h e = record { within = omega arith; below = m.below; here = λ p. e }
-
-pub found_none : {n : ℕ} {f : ℕ → Bool} {i : ℕ} → Missed n f i → n ≤ i → First n f n
-found_none {n} {f} {i} m h = record { within = omega arith; below = λ k p. m.below k (omega arith); here = λ p. absurd (omega arith) }
+pub found_from : (n low : ℕ) (f : ℕ → Bool) (r : Option ℕ) → low ≤ n → ((k : ℕ) → k < low → f k ≡ false)
+    → MatchOption r ((k : ℕ) → low ≤ k → k < n → f k ≡ false) (λ i. (low ≤ i) × (i < n) × (f i ≡ true) × ((k : ℕ) → low ≤ k → k < i → f k ≡ false)) → Found n f r
+found_from n low f None fits b m =
+    (
+      record {
+        within = omega arith;
+        below = λ k h. ⊎_elim (λ e. b k (ltb-true k low e)) (λ e. m k (ltb-false k low e) h) (decided (ltb k low));
+        here = λ h. absurd (omega arith);
+      },
+      tt,
+    )
+found_from n low f (Some i) fits b m =
+    (
+      record {
+        within = omega (arith, m.1);
+        below = λ k h. ⊎_elim (λ e. b k (ltb-true k low e)) (λ e. m.3 k (ltb-false k low e) h) (decided (ltb k low));
+        here = λ h. m.2;
+      },
+      m.1,
+    )
 
 -- ---- the part that passes
 
@@ -52,6 +55,27 @@ module _ {A : Type 0} (f : A → Bool) (g : ℕ → A) (i : ℕ) where
   pub those_same : f (g i) ≡ false → those f (tab (i + 1) g) ≡ those f (tab i g)
   unfolding tab
   those_same e = rw (add-one, tab, those-append f (tab i g) (g i ∷ [])) (unfold those in (rw e (append-nil (those f (tab i g)))))
+
+  pub those_counted : length (those f (tab (i + 1) g)) ≡ length (those f (tab i g)) + (if f (g i) then 1 else 0)
+  those_counted =
+      ⊎_elim (λ e. rw (those_more e, e) (length-append (those f (tab i g)) (g i ∷ []))) (λ e. rw (those_same e, e) (omega arith)) (decided (f (g i)))
+
+-- the same as a chain over a range has it
+pub tab_range : {A : Type 0} (g : ℕ → A) (n : ℕ) → map g (range_with_len 0 n) ≡ tab n g
+unfolding tab
+tab_range g zero = refl
+tab_range {A} g (suc n) = rw add-one at (map-range_with_len_more g 0 n n (omega arith)) ∙ ap (λ (l : List A). l ++ (g n ∷ [])) (tab_range g n)
+
+pub those_filter : {A : Type 0} (f : A → Bool) (xs : List A) → filter f xs ≡ those f xs
+unfolding those
+those_filter f [] = refl
+those_filter {A} f (x ∷ xs) = ap (λ (l : List A). if f x then x ∷ l else l) (those_filter f xs)
+
+pub passing : (f : ℕ → Bool) (n : ℕ) → filter f (range_with_len 0 n) ≡ those f (tab n (λ k. k))
+passing f n = those_filter f (range_with_len 0 n) ∙ ap (those f) (sym (map-id (range_with_len 0 n)) ∙ tab_range (λ k. k) n)
+
+pub passing_few : (f : ℕ → Bool) (n : ℕ) → length (filter f (range_with_len 0 n)) ≤ n
+passing_few f n = omega (arith, length-filter f (range_with_len 0 n), count_by-le-length f (range_with_len 0 n), length-range_with_len 0 n)
 
 module _ {A : Type 0} (f g : A → Bool) (h : (x : A) → f x ≡ true → g x ≡ true) where
   -- what passes f passes g before
@@ -94,3 +118,9 @@ module _ {A : Type 0} where
   set_self [] i d = refl
   set_self (x ∷ xs) zero d = refl
   set_self (x ∷ xs) (suc i) d = ap (λ (l : List A). x ∷ l) (set_self xs i d)
+
+-- ---- what is there, or not, by a clause that says what follows either way
+
+pub by_option : {A R P : Type 0} {Q : A → Type 0} (o : Option A) → MatchOption o P Q → (o ≡ None → P → R) → ((x : A) → o ≡ Some x → Q x → R) → R
+by_option None m f g = f refl m
+by_option (Some x) m f g = g x refl m

@@ -1,5 +1,7 @@
 -- The message places of an image: which are free, how many, and what placing, freeing and sending make of them. Assumes nothing.
-use Rattle.std.specs.Prelude.{if◌then◌else◌}
+use Rattle.std.specs.Prelude.{if◌then◌else◌, filter, sum_by}
+use Rattle.std.specs.List.{range_with_len}
+use Rattle.std.proofs.lemmas.List.Sums.{sum_by-cons}
 use mathlib.Core.Path.{◌≡◌, refl, sym, ap, ◌∙◌}
 use mathlib.Core.Logic.{◌≢◌, ⊎_elim}
 use mathlib.Core.Bool.{true, false}
@@ -18,7 +20,7 @@ use Rattle.rows.specs.Bytes.{placed, splice, tab, cat, zeros}
 use Rattle.rows.proofs.Laws.{Holds, holds-byte, placed_fits, placed_not}
 use Rattle.rows.proofs.Change.{Changed, changed_first, changed_more, changed_set}
 use Rattle.rules.specs.Sets.{bit, those}
-use Rattle.rules.specs.Messages.{Message, Sending, copies, outgoing}
+use Rattle.rules.specs.Messages.{Body, Message, Sending, copies, outgoing}
 use Rattle.rules.specs.State.{Place, free, waiting, World, place_at, with_places}
 use Rattle.rules.specs.Sending.{place, place_all, free_in}
 use Rattle.rules.specs.Steps.{freed}
@@ -34,7 +36,7 @@ use Rattle.layout.proofs.Zeros.{place-zeros}
 use Rattle.state.specs.declared.Sending as code
 use Rattle.state.specs.Meaning.{sending_of}
 use Rattle.world.specs.Commits.{First, free_row, free_rows, TakenTo, receivers_below, freed_at, message, is_waiting, delivered}
-use Rattle.world.proofs.Lists.{those_more, those_same}
+use Rattle.world.proofs.Lists.{those_counted, passing, passing_few}
 
 -- ---- a place's kind is 0 exactly where it is free
 
@@ -88,29 +90,17 @@ module _ (w : World) where
   pub free_rows_lem : length w.places ≡ 256 → free_rows (image w) 256 ≡ free_in w.places
   free_rows_lem e = rows_to 256 (omega arith) ∙ ap (free_to w.places) (sym e) ∙ free-to-all w.places
 
-pub rows_none : (l : List ℕ) → 0 ≡ free_rows l 0
-unfolding free_rows
-rows_none l = refl
+-- counted by a chain
+rows_those : (l : List ℕ) (n : ℕ) → free_rows l n ≡ length (those (free_row l) (tab n (λ k. k)))
+unfolding free_rows those tab
+rows_those l zero = refl
+rows_those l (suc n) = rw (rows_those l n) (sym (rw add-one at (those_counted (free_row l) (λ k. k) n)))
 
-pub rows_more : (l : List ℕ) (n : ℕ) → free_rows l (n + 1) ≡ free_rows l n + (if free_row l n then 1 else 0)
-unfolding free_rows
-rows_more l n = rw (add-one, free_rows)
+pub rows_counted : (l : List ℕ) (n : ℕ) → length (filter (free_row l) (range_with_len 0 n)) ≡ free_rows l n
+rows_counted l n = ap length (passing (free_row l) n) ∙ sym (rows_those l n)
 
-pub rows_one : (l : List ℕ) (n : ℕ) → free_row l n ≡ true → free_rows l (n + 1) ≡ free_rows l n + 1
-rows_one l n e = rows_more l n ∙ rw e
-
-pub rows_same : (l : List ℕ) (n : ℕ) → free_row l n ≡ false → free_rows l (n + 1) ≡ free_rows l n + 0
-rows_same l n e = rows_more l n ∙ rw e
-
--- further on no fewer are free
-pub rows_grow : (l : List ℕ) (m n : ℕ) → m ≤ n → free_rows l m ≤ free_rows l n
-unfolding free_rows
-rows_grow l m zero h = let z : m ≡ 0 = omega arith in rw z (omega arith)
-rows_grow l m (suc n) h = go (ℕ_discrete m (suc n)) (λ k. rows_grow l m n k)
-  where
-    go : Dec (m ≡ suc n) → (m ≤ n → free_rows l m ≤ free_rows l n) → free_rows l m ≤ free_rows l n + (if free_row l n then 1 else 0)
-    go (yes e) r = rw e (omega arith)
-    go (no q) r = omega (arith, r (omega arith))
+pub places_counted : (l : List ℕ) (n r : ℕ) → r ≡ length (filter (free_row l) (range_with_len 0 n)) → (r ≡ free_rows l n) × (r ≤ n)
+places_counted l n r e = (e ∙ rows_counted l n, rw e (passing_few (free_row l) n))
 
 -- ---- a place freed
 
@@ -211,43 +201,18 @@ unfolding place_all
 places-append [] b ps = refl
 places-append (m ∷ a) b ps = places-append a b (place m ps)
 
--- the copies of a sending to its receivers below n
-unfoldable pub copies_below : ℕ → Sending → ℕ → List Message
-copies_below from s n = map (message from s.body) (receivers_below s.receivers n)
+-- to its receivers in ascending order
+pub all_copies : (from : ℕ) (s : Sending) → copies from s ≡ map (message from s.body) (receivers_below s.receivers 12)
+unfolding copies receivers_below tab message
+all_copies from s = refl
 
-pub all-copies : (from : ℕ) (s : Sending) → copies from s ≡ copies_below from s 12
-unfolding copies copies_below receivers_below tab message
-all-copies from s = refl
+-- the receivers as a chain finds them
+pub receivers_found : (m n : ℕ) → filter (bit m) (range_with_len 0 n) ≡ receivers_below m n
+unfolding receivers_below
+receivers_found m n = passing (bit m) n
 
-pub copies_length : (from : ℕ) (s : Sending) → length (copies from s) ≡ length (receivers_below s.receivers 12)
-unfolding copies_below
-copies_length from s = ap length (all-copies from s) ∙ length-map (receivers_below s.receivers 12) _
-
-module _ (m i : ℕ) where
-  pub receiver_more : bit m i ≡ true → receivers_below m (i + 1) ≡ receivers_below m i ++ (i ∷ [])
-  unfolding receivers_below
-  receiver_more e = those_more (bit m) (λ k. k) i e
-
-  pub receiver_same : bit m i ≡ false → receivers_below m (i + 1) ≡ receivers_below m i
-  unfolding receivers_below
-  receiver_same e = those_same (bit m) (λ k. k) i e
-
-  pub receiver_none : receivers_below m 0 ≡ []
-  unfolding receivers_below tab those
-  receiver_none = refl
-
-  -- counted
-  pub receiver_counted : length (receivers_below m (i + 1)) ≡ length (receivers_below m i) + (if bit m i then 1 else 0)
-  receiver_counted =
-      ⊎_elim (λ e. rw (receiver_more e, e) (length-append (receivers_below m i) (i ∷ []))) (λ e. rw (receiver_same e, e) (omega arith)) (decided (bit m i))
-
--- where there are none
-pub no_copies : (from : ℕ) (x : Sending) → x.receivers ≡ 0 → copies from x ≡ []
-unfolding copies_below
-no_copies from x e = all-copies from x ∙ rw (e, nobody)
-  where
-    nobody : receivers_below 0 12 ≡ []
-    nobody = unfold receivers_below tab those in refl
+pub receivers_counted : (m n r : ℕ) → r ≡ length (filter (bit m) (range_with_len 0 n)) → (r ≡ length (receivers_below m n)) × (r ≤ n)
+receivers_counted m n r e = (e ∙ ap length (receivers_found m n), rw e (passing_few (bit m) n))
 
 -- what goes out of the first i of these sendings
 unfoldable pub out_to : ℕ → List code.Sending → ℕ → List Message
@@ -274,17 +239,22 @@ module _ (from : ℕ) (xs : List code.Sending) where
       let s : Sending = sending_of (get_or xs i d) in
       rw (add-one, take-suc xs i d h, map-append sending_of (take i xs) (get_or xs i d ∷ []), out_append from ss (s ∷ []), out_one from s)
 
-  -- counted
-  pub out_counted : (i : ℕ) (d : code.Sending) → i < length xs
-      → length (out_to from xs (i + 1)) ≡ length (out_to from xs i) + length (receivers_below (get_or xs i d).receivers 12)
-  unfolding sending_of
-  out_counted i d h =
-      let s : Sending = sending_of (get_or xs i d) in
-      rw (out_more i d h, length-append (out_to from xs i) (copies from s), copies_length from s)
-
   pub out_all : (i : ℕ) → length xs ≤ i → out_to from xs i ≡ outgoing from (map sending_of xs)
   unfolding out_to
   out_all i h = rw (take_all i xs h)
+
+-- counted
+copies_counted : (from : ℕ) (x : code.Sending) → length (copies from (sending_of x)) ≡ length (receivers_below x.receivers 12)
+unfolding sending_of
+copies_counted from x = ap length (all_copies from (sending_of x)) ∙ length-map (receivers_below x.receivers 12) _
+
+pub out_counted : (from : ℕ) (xs : List code.Sending) → length (outgoing from (map sending_of xs)) ≡ sum_by (λ s. length (receivers_below s.receivers 12)) xs
+unfolding outgoing
+out_counted from [] = refl
+out_counted from (x ∷ xs) =
+    let s : Sending = sending_of x in
+    length-append (copies from s) (outgoing from (map sending_of xs))
+    ∙ rw (out_counted from xs, copies_counted from x, sum_by-cons (λ (y : code.Sending). length (receivers_below y.receivers 12)) x xs)
 
 -- a buffer s₀ into which these messages are placed
 pub record Placed (s₀ : List ℕ) (ms : List Message) (s : List ℕ) : Type 0 where
@@ -304,28 +274,9 @@ placed_more {s₀} {s} {ms} h ns z t k f =
       is = λ w l q. f (with_places w (place_all ms w.places)) (places-length ms w.places ∙ l) (h.is w l q) ∙ rw (z, places-append ms ns w.places);
     }
 
--- a buffer s₀ into which the copies below n are sent
-pub record Sent (s₀ : List ℕ) (from : ℕ) (x : Sending) (s : List ℕ) (n : ℕ) : Type 0 where
-  pub within : n ≤ 12
-  pub done : Placed s₀ (copies_below from x n) s
-
-module _ {s₀ : List ℕ} {from : ℕ} {x : Sending} where
-  pub sent-none : Sent s₀ from x s₀ 0
-  unfolding copies_below
-  sent-none = record { within = omega arith; done = placed-none (rw (receiver_none x.receivers 0)) }
-
-  pub sent_same : {s : List ℕ} {n : ℕ} → Sent s₀ from x s n → n < 12 → bit x.receivers n ≡ false → Sent s₀ from x s (n + 1)
-  unfolding copies_below
-  sent_same {s} {n} h b e = record { within = omega arith; done = rw (receiver_same x.receivers n e) h.done }
-
-  pub sent_more : {s : List ℕ} {n : ℕ} (t : List ℕ) → Sent s₀ from x s n → n < 12 → bit x.receivers n ≡ true → length t ≡ length s
-      → ((w : World) → length w.places ≡ 256 → s ≡ image w → t ≡ image (with_places w (place (message from x.body n) w.places))) → Sent s₀ from x t (n + 1)
-  unfolding place_all
-  sent_more {s} {n} t h b e k f = record { within = omega arith; done = placed_more h.done (message from x.body n ∷ []) more t k f }
-    where
-      more : copies_below from x (n + 1) ≡ copies_below from x n ++ (message from x.body n ∷ [])
-      more = unfold copies_below in (rw (receiver_more x.receivers n e) (map-append (message from x.body) (receivers_below x.receivers n) (n ∷ [])))
-
-  pub sent-all : {s : List ℕ} {n : ℕ} → Sent s₀ from x s n → 12 ≤ n
-      → (w : World) → length w.places ≡ 256 → s₀ ≡ image w → s ≡ image (with_places w (place_all (copies from x) w.places))
-  sent-all {s} {n} h e w l q = let z : n ≡ 12 = omega (arith, h.within) in rw (all-copies from x, ← z) (h.done.is w l q)
+-- one more
+pub placed_one : {s₀ s : List ℕ} (from : ℕ) (b : Body) (ns : List ℕ) → Placed s₀ (map (message from b) ns) s → (n : ℕ) (t : List ℕ) → length t ≡ length s
+    → ((w : World) → length w.places ≡ 256 → s ≡ image w → t ≡ image (with_places w (place (message from b n) w.places)))
+    → Placed s₀ (map (message from b) (ns ++ (n ∷ []))) t
+unfolding place_all
+placed_one from b ns h n t k f = placed_more h (message from b n ∷ []) (map-append (message from b) ns (n ∷ [])) t k f

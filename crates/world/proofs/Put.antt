@@ -1,4 +1,5 @@
 -- A relay's region of good bytes: whether what its part has become finds its seats, and what is written there. Assumes nothing.
+use Rattle.std.specs.Prelude.{Option, None, Some, is_some}
 use mathlib.Core.Path.{◌≡◌, refl, sym, ap, ◌∙◌}
 use mathlib.Core.Logic.{◌≢◌}
 use mathlib.Core.Bool.{true, false}
@@ -9,7 +10,7 @@ use native.Mathlib.Omega.{arith}
 use lib.Dec.{eqb, leb, ltb}
 use lib.ListN.{length, get_or}
 use lib.Seq.{get_or-set_same, set-set}
-use borrow.Author.Tests.{eq-eqb, ne_eqb, le-leb}
+use borrow.Author.Tests.{eq-eqb, ne_eqb, le-leb, lt-ltb}
 use Rattle.views.proofs.Sets.{inside_lt, inside_fact}
 use Rattle.rows.specs.Bytes.{placed, splice, table, tab, u16_at}
 use Rattle.rows.proofs.Laws.{placed_fits, run_ext}
@@ -26,11 +27,13 @@ use Rattle.layout.proofs.Widths.{length_head, length_generator, length_transfer,
 use Rattle.layout.proofs.World.{Shaped, good_image}
 use Rattle.rows.proofs.Change.{Changed}
 use Rattle.layout.proofs.Write.{put_head, put_generator_lem, put_transfer_lem, put-transfers, write_relay, shaped_relay}
+use Rattle.state.specs.declared.Generator as code-generator
+use Rattle.state.specs.declared.Transfer as code-transfer
 use Rattle.state.specs.declared.Part.{Part}
 use Rattle.state.specs.Meaning.{generator_of, transfer_of, relay_of, part_of}
 use Rattle.image.proofs.Parts.{head_alone}
 use Rattle.locality.specs.Narrow.{move, widened}
-use Rattle.world.specs.Commits.{First, ends_view, ends_move, kept_rows}
+use Rattle.world.specs.Commits.{First, Found, ends_view, ends_move, kept_rows}
 use Rattle.locality.proofs.Part.{generators_fit, transfers_fit, generators_stay, generator_written, generator_room, transfers_stay, transfer_written, transfer_room, transfers-freed, freed_fewer}
 use Rattle.world.proofs.Lists.{set_self, those_again}
 use Rattle.world.proofs.Good.{relay_at_lem, view_at, shaped, good_relay_lem, seat_view, seat_move}
@@ -69,29 +72,29 @@ module _ (b : List ℕ) (good : good_bytes b ≡ true) (s : ℕ) (hs : s < 8) (p
 
   -- ---- what the part shows
 
-  no_generator : p.generates ≡ false → n.generators ≡ []
+  no_generator : p.generator ≡ None → n.generators ≡ []
   unfolding part_of relay_of
   no_generator e = rw e
 
-  a_generator : p.generates ≡ true → n.generators ≡ generator_of p.generator ∷ []
+  a_generator : (g : code-generator.Generator) → p.generator ≡ Some g → n.generators ≡ generator_of g ∷ []
   unfolding part_of relay_of
-  a_generator e = rw e
+  a_generator g e = rw e
 
-  no_transfer : p.transfers ≡ false → n.transfers ≡ []
+  no_transfer : p.transfer ≡ None → n.transfers ≡ []
   unfolding part_of relay_of
   no_transfer e = rw e
 
-  a_transfer : p.transfers ≡ true → n.transfers ≡ transfer_of p.transfer ∷ []
+  a_transfer : (t : code-transfer.Transfer) → p.transfer ≡ Some t → n.transfers ≡ transfer_of t ∷ []
   unfolding part_of relay_of
-  a_transfer e = rw e
+  a_transfer t e = rw e
 
-  generator_view_lem : (generator_of p.generator).view ≡ p.generator.view
+  generator_view_lem : (g : code-generator.Generator) → (generator_of g).view ≡ g.view
   unfolding generator_of
-  generator_view_lem = refl
+  generator_view_lem g = refl
 
-  transfer_move : move (transfer_of p.transfer).old (transfer_of p.transfer).new ≡ move p.transfer.old p.transfer.new
+  transfer_move : (t : code-transfer.Transfer) → move (transfer_of t).old (transfer_of t).new ≡ move t.old t.new
   unfolding transfer_of
-  transfer_move = refl
+  transfer_move t = refl
 
   -- its view, and the view before
   same_view_lem : p.head.view ≡ u16_at b (relay_begin s + head_view) → eqb n.view r.view ≡ true
@@ -110,13 +113,19 @@ module _ (b : List ℕ) (good : good_bytes b ≡ true) (s : ℕ) (hs : s < 8) (p
   few_transfers : length r.transfers ≤ 8
   few_transfers = transfers_fit s r (good_relay_lem b good s)
 
-  pub seated_none : p.generates ≡ false → true ≡ leb (length (widened r n).generators) 8
+  pub seated_none : p.generator ≡ None → true ≡ leb (length (widened r n).generators) 8
   seated_none e = sym (rw (generators_stay r n (no_generator e)) (le-leb _ _ few_generators))
 
-  pub seated_some : p.generates ≡ true → (i : ℕ) → First 8 (ends_view b (generators_begin s) p.generator.view) i → ltb i 8 ≡ leb (length (widened r n).generators) 8
-  seated_some e i f =
-      ap (λ (k : ℕ). ltb k 8) (sym (seat_view b good s hs p.generator.view i f))
-      ∙ sym (generator_room r n (generator_of p.generator) (a_generator e) p.generator.view generator_view_lem 8 few_generators)
+  pub seated_some : (g : code-generator.Generator) → p.generator ≡ Some g → (i : ℕ) → First 8 (ends_view b (generators_begin s) g.view) i
+      → ltb i 8 ≡ leb (length (widened r n).generators) 8
+  seated_some g e i f =
+      ap (λ (k : ℕ). ltb k 8) (sym (seat_view b good s hs g.view i f))
+      ∙ sym (generator_room r n (generator_of g) (a_generator g e) g.view (generator_view_lem g) 8 few_generators)
+
+  pub seated_found : (g : code-generator.Generator) → p.generator ≡ Some g → (x : Option ℕ) → Found 8 (ends_view b (generators_begin s) g.view) x
+      → is_some x ≡ leb (length (widened r n).generators) 8
+  seated_found g e None f = seated_some g e 8 f.0
+  seated_found g e (Some i) f = sym (lt-ltb i 8 f.1) ∙ seated_some g e i f.0
 
   pub moved_seated : p.head.view ≢ u16_at b (relay_begin s + head_view) → true ≡ leb (length (widened r n).transfers) 8
   moved_seated v =
@@ -124,14 +133,19 @@ module _ (b : List ℕ) (good : good_bytes b ≡ true) (s : ℕ) (hs : s < 8) (p
       sym (le-leb (length (widened r n).transfers) 8 few)
 
   module _ (v : p.head.view ≡ u16_at b (relay_begin s + head_view)) where
-    pub stays_seated : p.transfers ≡ false → true ≡ leb (length (widened r n).transfers) 8
+    pub stays_seated : p.transfer ≡ None → true ≡ leb (length (widened r n).transfers) 8
     stays_seated e = sym (rw (transfers_stay r n (same_view_lem v) (no_transfer e)) (le-leb _ _ few_transfers))
 
-    pub moves_seated : p.transfers ≡ true → (i : ℕ) → First 8 (ends_move b (transfers_begin s) p.transfer.old p.transfer.new) i
+    pub moves_seated : (t : code-transfer.Transfer) → p.transfer ≡ Some t → (i : ℕ) → First 8 (ends_move b (transfers_begin s) t.old t.new) i
         → ltb i 8 ≡ leb (length (widened r n).transfers) 8
-    moves_seated e i f =
-        ap (λ (k : ℕ). ltb k 8) (sym (seat_move b good s hs p.transfer.old p.transfer.new i f))
-        ∙ sym (transfer_room r n (same_view_lem v) (transfer_of p.transfer) (a_transfer e) (move p.transfer.old p.transfer.new) transfer_move 8 few_transfers)
+    moves_seated t e i f =
+        ap (λ (k : ℕ). ltb k 8) (sym (seat_move b good s hs t.old t.new i f))
+        ∙ sym (transfer_room r n (same_view_lem v) (transfer_of t) (a_transfer t e) (move t.old t.new) (transfer_move t) 8 few_transfers)
+
+    pub moves_found : (t : code-transfer.Transfer) → p.transfer ≡ Some t → (x : Option ℕ) → Found 8 (ends_move b (transfers_begin s) t.old t.new) x
+        → is_some x ≡ leb (length (widened r n).transfers) 8
+    moves_found t e None f = moves_seated t e 8 f.0
+    moves_found t e (Some i) f = sym (lt-ltb i 8 f.1) ∙ moves_seated t e i f.0
 
   -- ---- the transfers are written
 
@@ -163,18 +177,18 @@ module _ (b : List ℕ) (good : good_bytes b ≡ true) (s : ℕ) (hs : s < 8) (p
       (write relay_transfers (table transfer_bytes (fresh_transfer 0 0) 8 ts) (omega (arith, table-length transfer_bytes (fresh_transfer 0 0) transfer_width 8 length_transfer ts)) (put-transfers r ts))
 
   module _ (v : p.head.view ≡ u16_at b (relay_begin s + head_view)) where
-    pub stays_written : p.transfers ≡ false → b ≡ image (with_relay w s (with_transfers r ts))
+    pub stays_written : p.transfer ≡ None → b ≡ image (with_relay w s (with_transfers r ts))
     unfolding with_transfers
     stays_written e = begin ∙ rw (transfers_stay r n (same_view_lem v) (no_transfer e))
 
-    pub moves_written : p.transfers ≡ true → (i : ℕ) → First 8 (ends_move b (transfers_begin s) p.transfer.old p.transfer.new) i → i < 8
-        → placed b (transfer_begin s i) (transfer_bytes (transfer_of p.transfer)) ≡ image (with_relay w s (with_transfers r ts))
-    moves_written e i f h =
-        let t = transfer_of p.transfer in
-        let at = seat_move b good s hs p.transfer.old p.transfer.new i f in
-        ap (λ (k : ℕ). placed b k (transfer_bytes t)) (add_assoc (relay_begin s) relay_transfers (i * transfer_width))
-        ∙ write (relay_transfers + i * transfer_width) (transfer_bytes t) (omega (arith, length_transfer t))
-        (put_transfer_lem r ts i t (rw at at (transfer_written r n (same_view_lem v) t (a_transfer e) (move p.transfer.old p.transfer.new) transfer_move)) h)
+    pub moves_written : (t : code-transfer.Transfer) → p.transfer ≡ Some t → (i : ℕ) → First 8 (ends_move b (transfers_begin s) t.old t.new) i → i < 8
+        → placed b (transfer_begin s i) (transfer_bytes (transfer_of t)) ≡ image (with_relay w s (with_transfers r ts))
+    moves_written t e i f h =
+        let u = transfer_of t in
+        let at = seat_move b good s hs t.old t.new i f in
+        ap (λ (k : ℕ). placed b k (transfer_bytes u)) (add_assoc (relay_begin s) relay_transfers (i * transfer_width))
+        ∙ write (relay_transfers + i * transfer_width) (transfer_bytes u) (omega (arith, length_transfer u))
+        (put_transfer_lem r ts i u (rw at at (transfer_written r n (same_view_lem v) u (a_transfer t e) (move t.old t.new) (transfer_move t))) h)
 
   -- ---- then the head, then the generator
 
@@ -190,7 +204,7 @@ module _ (b : List ℕ) (good : good_bytes b ≡ true) (s : ℕ) (hs : s < 8) (p
       whole : splice (relay_bytes (with_transfers r ts)) 0 (head_bytes headed) ≡ relay_bytes headed
       whole = unfold with_transfers relay_of in (put_head (with_transfers r ts) headed refl refl)
 
-  pub none_written : p.generates ≡ false → headed ≡ widened r n
+  pub none_written : p.generator ≡ None → headed ≡ widened r n
   unfolding widened part_of relay_of
   none_written e = rw e
 
@@ -199,11 +213,11 @@ module _ (b : List ℕ) (good : good_bytes b ≡ true) (s : ℕ) (hs : s < 8) (p
   unfolding relay_of with_generators part_of widened
   region g i c h = put_generator_lem headed (widened r n).generators i g c h
 
-  pub some_written : p.generates ≡ true → (i : ℕ) → First 8 (ends_view b (generators_begin s) p.generator.view) i → i < 8
-      → placed (image (with_relay w s headed)) (generator_begin s i) (generator_bytes (generator_of p.generator)) ≡ image (with_relay w s (widened r n))
-  some_written e i f h =
-      let g = generator_of p.generator in
-      let at = seat_view b good s hs p.generator.view i f in
-      ap (λ (k : ℕ). placed (image (with_relay w s headed)) k (generator_bytes g)) (add_assoc (relay_begin s) relay_generators (i * generator_width))
-      ∙ relay_put w (shaped b good) s hs headed (widened r n) (relay_generators + i * generator_width) (generator_bytes g) (omega (arith, length_generator g))
-      (region g i (rw at at (generator_written r n g (a_generator e) p.generator.view generator_view_lem)) h)
+  pub some_written : (g : code-generator.Generator) → p.generator ≡ Some g → (i : ℕ) → First 8 (ends_view b (generators_begin s) g.view) i → i < 8
+      → placed (image (with_relay w s headed)) (generator_begin s i) (generator_bytes (generator_of g)) ≡ image (with_relay w s (widened r n))
+  some_written g e i f h =
+      let u = generator_of g in
+      let at = seat_view b good s hs g.view i f in
+      ap (λ (k : ℕ). placed (image (with_relay w s headed)) k (generator_bytes u)) (add_assoc (relay_begin s) relay_generators (i * generator_width))
+      ∙ relay_put w (shaped b good) s hs headed (widened r n) (relay_generators + i * generator_width) (generator_bytes u) (omega (arith, length_generator u))
+      (region u i (rw at at (generator_written r n u (a_generator g e) g.view (generator_view_lem g))) h)

@@ -1,5 +1,5 @@
 -- In what parts the code takes a step: what it looks up in the buffer, and what it makes of a plan. Assumes nothing.
-use Rattle.std.specs.Prelude.{◌≡◌, Bool, true, false, not, ◌&&◌, ◌||◌, List, ℕ, zero, suc, ◌+◌, ◌*◌, ◌-◌, ◌≤◌, ◌<◌, eqb, leb, ltb, get_or, set, replicate, if◌then◌else◌}
+use Rattle.std.specs.Prelude.{◌≡◌, Bool, true, false, not, ◌&&◌, ◌||◌, List, ℕ, zero, suc, ◌+◌, ◌*◌, ◌-◌, ◌≤◌, ◌<◌, eqb, leb, ltb, get_or, set, replicate, Option, unwrap_or, IfSome, if◌then◌else◌}
 use Rattle.rows.specs.Bytes.{u16_at, tab}
 use Rattle.rules.specs.Sets.{bit, those, inside, relay_count, desk_count, everyone}
 use Rattle.rules.specs.Messages.{Body, Message, Answer}
@@ -17,6 +17,10 @@ pub record First (n : ℕ) (f : ℕ → Bool) (r : ℕ) : Type 0 where
   pub within : r ≤ n
   pub below : (k : ℕ) → k < r → f k ≡ false
   pub here : r < n → f r ≡ true
+
+-- what a search below n finds: the first that passes the test, if any
+abbrev pub Found : ℕ → (ℕ → Bool) → Option ℕ → Type 0
+Found n f r = First n f (unwrap_or r n) × IfSome r (λ i. i < n)
 
 -- ---- looked up in the bytes
 

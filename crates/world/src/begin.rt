@@ -15,26 +15,21 @@ fn start_head(mask: u8, s: u8) -> Head
 {
     let known = mask as u16;
     let joined = (mask >> s) % 2 == 1;
-    let mut head = Head {
+    Head {
         alive: true,
         entered: joined,
         active: joined,
-        view: known,
-        known: known,
+        view: if joined { known } else { 0 },
+        known,
         pending: 0,
         holds: stamps::fresh(),
-    };
-    if joined {
-        return head;
     }
-    head.view = 0;
-    head
 }
 
 pub(crate) fn put_relays(w: &mut [u8], mask: u8)
     ensures { w.old ≡ image (begun mask 0 0) → w.new ≡ image (begun mask 8 0) }
 {
-    for s in 0..8u8 {
+    for s in 0..rules::RELAYS as u8 {
         let head = start_head(mask, s);
         image::put_head(w, s as usize * layout::RELAY_WIDTH, head);
     }
@@ -59,7 +54,7 @@ pub(crate) fn put_desks(w: &mut [u8], mask: u8)
     ensures { w.old ≡ image (begun mask 8 0) → w.new ≡ image (begun mask 8 4) }
 {
     let desk = start_desk(mask);
-    for n in 0..4usize {
+    for n in 0..rules::DESKS {
         image::put_desk(w, layout::WORLD_DESKS + n * layout::DESK_WIDTH, desk);
     }
 }

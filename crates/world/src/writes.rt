@@ -1,5 +1,5 @@
 // What a step writes into the lent buffer.
-ghost use Rattle.std.specs.Prelude.{◌≡◌, true, map, ℕ, ◌+◌, ◌≤◌, ◌<◌, leb, length, get_or};
+ghost use Rattle.std.specs.Prelude.{◌≡◌, true, map, ℕ, ◌+◌, ◌≤◌, ◌<◌, leb, length, get_or, unwrap_or};
 ghost use Rattle.rows.specs.Bytes.{placed, table};
 ghost use Rattle.rules.specs.Messages.{copies, outgoing};
 ghost use Rattle.rules.specs.State.{World, with_places, relay_at, with_relay, with_transfers};
@@ -11,20 +11,18 @@ ghost use Rattle.state.specs.Meaning.{transfer_of, part_of, body_of, sending_of,
 ghost use Rattle.locality.specs.Narrow.{widened};
 ghost use Rattle.world.specs.Commits.{TakenTo, freed_at, kept_rows, message};
 
-use state::{Body, MOST, Message, Part, Sending, Sendings, Transfer};
+use state::{Body, Message, Part, Sending, Sendings, Transfer};
 
 // ---- places
 
-// "DELIVER frees its place first"; 256 is none.
-pub(crate) fn free(w: &mut [u8], p: usize)
-    ensures { (W : World) → length W.places ≡ 256 → w.old ≡ image W → w.new ≡ image (freed_at W p) }
+// "DELIVER frees its place first"
+pub(crate) fn free(w: &mut [u8], p: Option<u8>)
+    ensures { (W : World) → length W.places ≡ 256 → w.old ≡ image W → w.new ≡ image (freed_at W (unwrap_or p 256)) }
 {
-    if 256 <= p {
-        return;
-    }
+    let Some(p) = p else { return; };
     rows::clear(
         w,
-        layout::WORLD_PLACES + p * layout::MESSAGE_WIDTH,
+        layout::WORLD_PLACES + p as usize * layout::MESSAGE_WIDTH,
         layout::MESSAGE_WIDTH,
     );
 }
@@ -36,15 +34,11 @@ fn place(w: &mut [u8], low: usize, from: u8, to: u8, body: Body) -> usize
     ensures bytes { (W : World) → length W.places ≡ 256 → w.old ≡ image W
         → w.new ≡ image (with_places W (rules.place (message from (body_of body) to) W.places)) }
 {
-    let p = super::reads::first_free(w, low);
-    if 256 <= p {
-        return low;
-    }
-    let plain = messages::plain(body);
+    let Some(p) = super::reads::first_free(w, low) else { return low; };
     let m = Message {
-        from: from,
-        to: to,
-        body: plain,
+        from,
+        to,
+        body: messages::plain(body),
     };
     image::put_message(w, layout::WORLD_PLACES + p * layout::MESSAGE_WIDTH, m);
     p
@@ -55,16 +49,9 @@ fn send(w: &mut [u8], from: u8, x: Sending)
     ensures { (W : World) → length W.places ≡ 256 → w.old ≡ image W
         → w.new ≡ image (with_places W (rules.place_all (copies from (sending_of x)) W.places)) }
 {
-    let m = x.receivers;
-    if m == 0 {
-        return;
-    }
-    let body = x.body;
     let mut low = 0;
-    for n in 0..12u8 {
-        if (m >> n) % 2 == 1 {
-            low = place(w, low, from, n, body);
-        }
+    for to in (0..rules::EVERYONE as u8).filter(|n| (x.receivers >> *n) % 2 == 1) {
+        low = place(w, low, from, to, x.body);
     }
 }
 
@@ -73,19 +60,12 @@ pub(crate) fn send_all(w: &mut [u8], from: u8, x: Sendings)
     ensures { (W : World) → length W.places ≡ 256 → w.old ≡ image W
         → w.new ≡ image (with_places W (rules.place_all (outgoing from (sendings_of x)) W.places)) }
 {
-    for i in 0..MOST {
-        let s = x.of[i];
+    for s in x.of {
         send(w, from, s);
     }
 }
 
 // ---- transfers
-
-// Eight rows: transfers, and then blank ones.
-#[derive(Clone, Copy)]
-struct Kept {
-    of: [Transfer; 8],
-}
 
 fn blank() -> Transfer
     ensures { transfer_of result ≡ fresh_transfer 0 0 }
@@ -100,31 +80,25 @@ fn blank() -> Transfer
     }
 }
 
-// "transfers whose new view does not strictly include w are freed, and the rest move down in their order"
-fn kept_transfers(w: &[u8], at: usize, v: u16) -> Kept
+// "transfers whose new view does not strictly include w are freed, and the rest move down in their order"; then blank ones
+fn kept_transfers(w: &[u8], at: usize, v: u16) -> [Transfer; rules::SEATS]
     requires { at < 65536 }
-    ensures { (k : ℕ) → k < 8 → get_or (map transfer_of result.of) k (fresh_transfer 0 0) ≡ get_or (kept_rows w.now at v 8) k (fresh_transfer 0 0) }
+    ensures { (k : ℕ) → k < 8 → get_or (map transfer_of result) k (fresh_transfer 0 0) ≡ get_or (kept_rows w.now at v 8) k (fresh_transfer 0 0) }
 {
-    let mut of = [blank(); 8];
-    let mut n = 0;
-    for i in 0..8usize {
-        let t = image::transfer_at(w, at + i * layout::TRANSFER_WIDTH);
-        if views::inside(v, t.new) {
-            of[n] = t;
-            n += 1;
-        }
+    let mut kept = [blank(); rules::SEATS];
+    let rows = (0..rules::SEATS).map(|i| image::transfer_at(w, at + i * layout::TRANSFER_WIDTH));
+    for (n, t) in rows.filter(|t| views::inside(v, t.new)).enumerate() {
+        kept[n] = t;
     }
-    Kept { of }
+    kept
 }
 
-fn put_kept(w: &mut [u8], at: usize, kept: Kept)
+fn put_kept(w: &mut [u8], at: usize, kept: &[Transfer; rules::SEATS])
     requires { at + transfers_width ≤ length w.old }
-    ensures { w.new ≡ placed w.old at (table transfer_bytes (fresh_transfer 0 0) 8 (map transfer_of kept.of)) }
+    ensures { w.new ≡ placed w.old at (table transfer_bytes (fresh_transfer 0 0) 8 (map transfer_of kept.now)) }
 {
-    let of = kept.of;
-    for i in 0..8usize {
-        let t = of[i];
-        image::put_transfer(w, at + i * layout::TRANSFER_WIDTH, t);
+    for (i, t) in kept.iter().enumerate() {
+        image::put_transfer(w, at + i * layout::TRANSFER_WIDTH, *t);
     }
 }
 
@@ -135,22 +109,16 @@ fn put_transfers(w: &mut [u8], s: u8, part: Part)
         → w.new ≡ image (with_relay (world_at w.old) s (with_transfers (relay_at (world_at w.old) s) (widened (relay_at (world_at w.old) s) (part_of part)).transfers)) }
 {
     let at = s as usize * layout::RELAY_WIDTH;
+    let transfers = at + layout::RELAY_TRANSFERS;
     let view = part.head.view;
     if view != rows::read_u16(w, at + layout::HEAD_VIEW) {
-        let kept = kept_transfers(w, at + layout::RELAY_TRANSFERS, view);
-        put_kept(w, at + layout::RELAY_TRANSFERS, kept);
+        let kept = kept_transfers(w, transfers, view);
+        put_kept(w, transfers, &kept);
         return;
     }
-    if !part.transfers {
-        return;
-    }
-    let t = part.transfer;
-    let i = super::reads::transfer_seat(w, at + layout::RELAY_TRANSFERS, t.old, t.new);
-    image::put_transfer(
-        w,
-        at + layout::RELAY_TRANSFERS + i * layout::TRANSFER_WIDTH,
-        t,
-    );
+    let Some(t) = part.transfer else { return; };
+    let Some(i) = super::reads::transfer_seat(w, transfers, t.old, t.new) else { return; };
+    image::put_transfer(w, transfers + i * layout::TRANSFER_WIDTH, t);
 }
 
 // ---- a relay
@@ -163,17 +131,13 @@ pub(crate) fn put_part(w: &mut [u8], s: u8, part: Part)
         → w.new ≡ image (with_relay (world_at w.old) s (widened (relay_at (world_at w.old) s) (part_of part))) }
 {
     let at = s as usize * layout::RELAY_WIDTH;
-    let head = part.head;
-    let g = part.generator;
-    let i = super::reads::generator_seat(w, at + layout::RELAY_GENERATORS, g.view);
+    let generators = at + layout::RELAY_GENERATORS;
+    // looked up before anything is written
+    let seat = part.generator
+        .and_then(|g| super::reads::generator_seat(w, generators, g.view));
     put_transfers(w, s, part);
-    image::put_head(w, at, head);
-    if !part.generates {
-        return;
-    }
-    image::put_generator(
-        w,
-        at + layout::RELAY_GENERATORS + i * layout::GENERATOR_WIDTH,
-        g,
-    );
+    image::put_head(w, at, part.head);
+    let Some(g) = part.generator else { return; };
+    let Some(i) = seat else { return; };
+    image::put_generator(w, generators + i * layout::GENERATOR_WIDTH, g);
 }

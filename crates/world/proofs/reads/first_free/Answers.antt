@@ -1,17 +1,14 @@
 -- `world::reads::first_free` meets its contract. Assumes nothing.
-use mathlib.Core.Path.{sym, ◌∙◌}
-use native.Mathlib.Omega.{arith}
-use Rattle.world.proofs.Lists.{missed_more, found_first, found_none}
+use mathlib.Core.Path.{◌≡◌}
+use mathlib.Core.Bool.{true, false}
+use borrow.Author.Rules.{rules}
+use Rattle.std.proofs.lemmas.Iterator.{first_from_Range}
+use Rattle.world.specs.Commits.{free_row}
+use Rattle.world.proofs.Lists.{found_from}
 use Rattle.world.proofs.reads.first_free.Goals as goal
 
-pub loop-p-init : goal.loop-p-init
-loop-p-init c = record { within = omega (arith, c.requires.within); below = c.requires.each }
-
-pub returns-then-is_free : goal.returns-then-is_free
-returns-then-is_free c = found_first c.loop-p.invariant c.loop-p-test.true (sym c.is_free.ensures ∙ c.if-is_free.true)
-
-pub loop-p-preserved : goal.loop-p-preserved
-loop-p-preserved c = missed_more c.loop-p.invariant c.loop-p-test.true (sym c.is_free.ensures ∙ c.if-is_free.false)
-
 pub returns : goal.returns
-returns c = found_none c.loop-p.invariant c.loop-p-test.false
+returns c =
+    found_from 256 c.args.low (free_row c.args.w.now) c.find.result c.requires.within c.requires.each
+    (first_from_Range _ _ _ c.find.result (λ k. free_row c.args.w.now k ≡ true) (λ k. free_row c.args.w.now k ≡ false) c.find.ensures.ran
+    (λ x q k. search rules) (λ x q k. search rules))

@@ -1,23 +1,15 @@
 -- `world::reads::free_places` meets its contract. Assumes nothing.
-use mathlib.Core.Path.{◌≡◌}
 use native.Mathlib.Omega.{arith}
-use Rattle.rules.proofs.Lists.{byte-is, byte_le}
-use Rattle.world.proofs.Places.{rows_more, rows_none}
+use borrow.Author.Rules.{rules}
+use borrow.Author.Tests.{tests}
+use Rattle.std.proofs.lemmas.Iterator.{YieldsList-from_range}
+use Rattle.std.proofs.lemmas.Iterator.Consumers.{YieldsList-from_filter, count_from_yields_List}
+use Rattle.world.specs.Commits.{free_row}
+use Rattle.world.proofs.Places.{places_counted}
 use Rattle.world.proofs.reads.free_places.Goals as goal
-
-pub loop-p-init : goal.loop-p-init
-loop-p-init c = (rows_none _, omega arith)
-
-pub overflow_add-n : goal.overflow_add-n
-overflow_add-n c = omega (arith, byte_le c.is_free.result)
-
-pub loop-p-preserved : goal.loop-p-preserved
-loop-p-preserved c = (
-  rw (rows_more c.args.w.now c.loop-p.p, ← c.is_free.ensures, ← byte-is c.is_free.result, c.loop-p.invariant.0),
-  omega (arith, byte_le c.is_free.result),
-)
 
 pub returns : goal.returns
 returns c =
-    let z : c.loop-p.p ≡ 256 = omega arith in
-    (rw z at c.loop-p.invariant.0, omega arith)
+    places_counted c.args.w.now 256 c.count.result
+    (count_from_yields_List c.filter.result c.count.result c.count.ensures.ran
+    (YieldsList-from_filter _ (free_row c.args.w.now) (YieldsList-from_range 0 256 256 (cc) (omega arith)) c.filter.ensures.closure (λ x r q k. search (rules, tests))))

@@ -1,10 +1,12 @@
 -- `world::reads::generator_seated` meets its contract. Assumes nothing.
-use borrow.Author.Tests.{not-true, not-false}
-use Rattle.world.proofs.Put.{seated_none, seated_some}
+use mathlib.Core.Path.{◌≡◌, ◌∙◌}
+use borrow.Author.Rules.{rules}
+use Rattle.world.proofs.Lists.{by_option}
+use Rattle.world.proofs.Put.{seated_none, seated_found}
 use Rattle.world.proofs.reads.generator_seated.Goals as goal
 
-pub returns-then-not-part : goal.returns-then-not-part
-returns-then-not-part c = seated_none c.args.w.now c.requires.0 c.args.s c.requires.1 c.args.part (not-true _ c.if-not-part.true)
-
 pub returns : goal.returns
-returns c = seated_some c.args.w.now c.requires.0 c.args.s c.requires.1 c.args.part (not-false _ c.if-not-part.false) _ c.generator_seat.ensures
+returns c =
+    by_option c.args.part.generator c.is_none_or.ensures
+    (λ e t. t ∙ seated_none c.args.w.now c.requires.0 c.args.s c.requires.1 c.args.part e)
+    (λ g e q. search (rules, seated_found c.args.w.now c.requires.0 c.args.s c.requires.1 c.args.part g e))

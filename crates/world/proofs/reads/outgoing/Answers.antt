@@ -1,31 +1,19 @@
--- `world::reads::outgoing` meets its contract: counted are the messages of the sendings before i. Assumes nothing.
-use mathlib.Core.Path.{◌≡◌, sym, ap, ◌∙◌}
-use Prim.Native.Nat.{◌<◌}
-use native.Mathlib.Omega.{arith}
+-- `world::reads::outgoing` meets its contract. Assumes nothing.
+use mathlib.Core.Path.{sym, ◌∙◌}
 use lib.ListN.{length}
 use borrow.Author.Rules.{rules}
+use Rattle.std.proofs.lemmas.Iterator.{YieldsList-from_slice, YieldsList-from_map}
+use Rattle.std.proofs.lemmas.Iterator.Consumers.{sum_by_from_yields_List}
+use Rattle.state.specs.declared.Sending.{Sending}
 use Rattle.state.specs.Meaning.{sendings_of}
-use Rattle.state.specs.Plans.{most}
-use Rattle.world.proofs.Places.{out_none, out_counted, out_all}
+use Rattle.world.specs.Commits.{receivers_below}
+use Rattle.world.proofs.Places.{out_counted}
 use Rattle.world.proofs.reads.outgoing.Goals as goal
-
-pub loop-i-init : goal.loop-i-init
-loop-i-init c = (λ from. ap length (sym (out_none from _)), (omega arith, omega arith))
-
-pub overflow_add-n : goal.overflow_add-n
-overflow_add-n c = omega arith
-
-pub loop-i-smaller : goal.loop-i-smaller
-loop-i-smaller c = omega arith
-
-pub loop-i-preserved : goal.loop-i-preserved
-loop-i-preserved c =
-    let full : length c.args.x.of ≡ most = search rules in
-    let h : c.loop-i.i < length c.args.x.of = omega (arith, full) in
-    (λ from. rw (c.loop-i.invariant.0 from, c.receivers-n.ensures.0) (sym (out_counted from c.args.x.of c.loop-i.i _ h)), (omega arith, omega arith))
 
 pub returns : goal.returns
 unfolding sendings_of
 returns c from =
-    let full : length c.args.x.of ≡ most = search rules in
-    c.loop-i.invariant.0 from ∙ ap length (out_all from c.args.x.of c.loop-i.i (omega (arith, full)))
+    sum_by_from_yields_List (λ (s : Sending). length (receivers_below s.receivers 12)) c.args.x.of c.map.result c.sum.result c.sum.ensures.ran
+    (YieldsList-from_map _ (λ (s : Sending). length (receivers_below s.receivers 12)) (YieldsList-from_slice c.args.x.of cc) c.map.ensures.closure
+    (λ x r q k. search rules))
+    ∙ sym (out_counted from c.args.x.of)

@@ -1,27 +1,15 @@
 -- `world::reads::receivers` meets its contract. Assumes nothing.
-use mathlib.Core.Path.{◌≡◌, sym, ap}
 use native.Mathlib.Omega.{arith}
-use lib.ListN.{length}
+use borrow.Author.Rules.{rules}
+use borrow.Author.Tests.{tests}
+use Rattle.std.proofs.lemmas.Iterator.{YieldsList-from_range}
+use Rattle.std.proofs.lemmas.Iterator.Consumers.{YieldsList-from_filter, count_from_yields_List}
 use Rattle.rules.specs.Sets.{bit}
-use Rattle.rules.proofs.Lists.{byte-is, byte_le}
-use Rattle.world.proofs.Places.{receiver_none, receiver_counted}
+use Rattle.world.proofs.Places.{receivers_counted}
 use Rattle.world.proofs.reads.receivers.Goals as goal
-
-pub loop-n-init : goal.loop-n-init
-loop-n-init c = (ap length (sym (receiver_none _ 0)), omega arith)
-
-pub overflow_shr-r : goal.overflow_shr-r
-overflow_shr-r c = omega arith
-
-pub overflow_add-r : goal.overflow_add-r
-overflow_add-r c = omega (arith, byte_le (bit c.args.m c.loop-n.n))
-
-pub loop-n-preserved : goal.loop-n-preserved
-loop-n-preserved c =
-    let b = bit c.args.m c.loop-n.n in
-    (rw (receiver_counted c.args.m c.loop-n.n, ← byte-is b, c.loop-n.invariant.0), omega (arith, byte_le b))
 
 pub returns : goal.returns
 returns c =
-    let z : c.loop-n.n ≡ 12 = omega arith in
-    (rw z at c.loop-n.invariant.0, omega arith)
+    receivers_counted c.args.m 12 c.count.result
+    (count_from_yields_List c.filter.result c.count.result c.count.ensures.ran
+    (YieldsList-from_filter _ (bit c.args.m) (YieldsList-from_range 0 12 12 (cc) (omega arith)) c.filter.ensures.closure (λ x r q k. search (rules, tests))))

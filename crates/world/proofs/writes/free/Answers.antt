@@ -1,19 +1,18 @@
 -- `world::writes::free` meets its contract. Assumes nothing.
-use mathlib.Core.Path.{ap, ◌∙◌}
-use lib.ListN.{length}
-use borrow.Author.Tests.{lt-ltb, le-ltb}
-use Rattle.rows.proofs.Laws.{placed-length}
+use Prim.Native.Nat.{◌<◌}
+use mathlib.Core.Path.{◌∙◌}
+use native.Mathlib.Omega.{arith}
+use borrow.Author.Tests.{lt-ltb}
 use Rattle.world.specs.Commits.{freed_at}
 use Rattle.world.proofs.Places.{put-free}
 use Rattle.world.proofs.writes.free.Goals as goal
 
-pub returns-then-p-ge256 : goal.returns-then-p-ge256
+pub returns-in_default : goal.returns-in_default
 unfolding freed_at
-returns-then-p-ge256 c W long e = e ∙ rw (le-ltb _ _ c.if-p-ge256.true)
-
-pub shape_of-w : goal.shape_of-w
-shape_of-w c = ap length c.clear.ensures ∙ placed-length _ _ _
+returns-in_default c W long e = e ∙ rw c.in_default.is
 
 pub returns : goal.returns
 unfolding freed_at
-returns c W long e = c.clear.ensures ∙ rw (e, lt-ltb _ _ c.if-p-ge256.false) (put-free W long c.args.p c.if-p-ge256.false)
+returns c W long e =
+    let small : c.in-Some.p < 256 = omega arith in
+    c.clear.ensures ∙ rw (c.in-Some.is, e, lt-ltb c.in-Some.p 256 small) (put-free W long c.in-Some.p small)

@@ -1,43 +1,62 @@
--- `world::writes::kept_transfers` meets its contract. Assumes nothing.
-use Prim.Native.Nat.{◌+◌, ◌*◌, ◌<◌}
-use mathlib.Core.Path.{◌≡◌, sym, ap, ◌∙◌}
+-- `world::writes::kept_transfers` meets its contract: those so far stand first. Assumes nothing.
+use Prim.Native.Nat.{ℕ, ◌+◌, ◌*◌, ◌<◌}
+use mathlib.Core.Path.{◌≡◌}
 use native.Mathlib.Omega.{arith}
+use lib.ListN.{length}
+use borrow.Author.Rules.{rules}
+use borrow.Author.Tests.{tests}
+use Rattle.std.proofs.lemmas.Iterator.{YieldsList-from_range, YieldsList-from_map_by}
+use Rattle.std.proofs.lemmas.Iterator.Consumers.{YieldsList-at, YieldsList-from_filter, YieldsList-from_enumerate, YieldsList-turn, YieldsList-end}
 use Rattle.rules.specs.Sets.{inside}
 use Rattle.rules.specs.State.{Transfer}
 use Rattle.layout.specs.Layout.{transfer_width}
 use Rattle.layout.specs.Image.{transfer_at}
 use Rattle.state.specs.Meaning.{transfer_of}
-use Rattle.rules.proofs.Lists.{map-set}
 use Rattle.image.proofs.Meaning.{transfer_read}
-use Rattle.world.proofs.Kept.{kept-none, kept_yes, kept_no, kept-all}
+use Rattle.world.proofs.Kept.{numbered, filled_none, filled_more, filled_all}
 use Rattle.world.proofs.writes.kept_transfers.Goals as goal
-use Rattle.world.proofs.writes.kept_transfers.Goals.{then-inside, else-inside}
 
-pub loop-i-init : goal.loop-i-init
-loop-i-init c = kept-none _ c.blank-of.ensures
+pub loop-n-init : goal.loop-n-init
+loop-n-init c = filled_none c.blank-kept.result c.blank-kept.ensures
 
-pub offset_bounds-of-n : goal.offset_bounds-of-n
-offset_bounds-of-n c =
-    let few = c.loop-i.invariant.few in
-    let small : c.loop-i.n < 8 = omega arith in
-    record { fits = omega arith }
-
-pub bounds-of-n : goal.bounds-of-n
-bounds-of-n c = let few = c.loop-i.invariant.few in omega arith
-
-pub overflow_add-n : goal.overflow_add-n
-overflow_add-n c = let few = c.loop-i.invariant.few in omega arith
-
-pub loop-i-preserved : goal.loop-i-preserved
+turn : (c : goal.After-t-1) → (c.in-Some.n ≡ length c.loop-n.yielded) × (c.in-Some.n < 8)
 unfolding transfer_of
-loop-i-preserved c =
-    let is_inside : c.inside.result ≡ inside c.args.v (transfer_at c.args.w.now (c.args.at + c.loop-i.i * transfer_width)).new =
-    c.inside.ensures ∙ ap (λ (t : Transfer). inside c.args.v t.new) (transfer_read _ _ c.transfer_at-t.ensures) in
-    elim c.if-inside.branch [
-      | then-inside w ↦ rw (w.of-is, w.n-is, map-set)
-          (kept_yes c.loop-i.invariant c.loop-i-test.true _ (transfer_read _ _ c.transfer_at-t.ensures) (sym is_inside ∙ w.if-inside.true))
-      | else-inside w ↦ rw (w.of-is, w.n-is) (kept_no c.loop-i.invariant c.loop-i-test.true (sym is_inside ∙ w.if-inside.false))
-    ]
+turn c =
+    let h = numbered c.args.w.now c.args.at c.args.v (length c.loop-n.yielded) c.in-Some.n (transfer_of c.in-Some.t)
+    (YieldsList-turn
+    (YieldsList-at c.into_iter-n-iterator.ensures.into_iter_gives
+    (YieldsList-from_enumerate
+    (YieldsList-at c.enumerate-n-items.ensures.source
+    (YieldsList-from_filter _ (λ (t : Transfer). inside c.args.v t.new)
+    (YieldsList-at c.filter.ensures.source
+    (YieldsList-from_map_by _ transfer_of (λ (k : ℕ). transfer_at c.args.w.now (c.args.at + k * transfer_width)) (YieldsList-from_range 0 8 8 (cc) (omega arith))
+    c.map-rows.ensures.closure (λ x r q k. (search rules, transfer_read _ _ (search rules)))))
+    c.filter.ensures.closure (λ x r q k. search (rules, tests))))
+    c.enumerate-n-items.ensures.count))
+    c.loop-n.yielded _ c.loop-n.yielded_by _ _ (c.in-Some.n, c.in-Some.t) c.in-Some.is c.next.ensures.steps) in
+    (h.0, omega arith)
+
+pub offset_bounds-kept-n : goal.offset_bounds-kept-n
+offset_bounds-kept-n c = let h = turn c in record { fits = omega arith }
+
+pub bounds-kept-n : goal.bounds-kept-n
+bounds-kept-n c = (turn c).1
+
+pub loop-n-preserved : goal.loop-n-preserved
+loop-n-preserved c = let h = turn c in filled_more c.loop-n.invariant c.in-Some.n c.in-Some.t h.0 h.1
 
 pub returns : goal.returns
-returns c = kept-all c.loop-i.invariant c.loop-i-test.false
+unfolding transfer_of
+returns c =
+    let seen = YieldsList-end
+    (YieldsList-at c.into_iter-n-iterator.ensures.into_iter_gives
+    (YieldsList-from_enumerate
+    (YieldsList-at c.enumerate-n-items.ensures.source
+    (YieldsList-from_filter _ (λ (t : Transfer). inside c.args.v t.new)
+    (YieldsList-at c.filter.ensures.source
+    (YieldsList-from_map_by _ transfer_of (λ (k : ℕ). transfer_at c.args.w.now (c.args.at + k * transfer_width)) (YieldsList-from_range 0 8 8 (cc) (omega arith))
+    c.map-rows.ensures.closure (λ x r q k. (search rules, transfer_read _ _ (search rules)))))
+    c.filter.ensures.closure (λ x r q k. search (rules, tests))))
+    c.enumerate-n-items.ensures.count))
+    c.loop-n.yielded _ c.loop-n.yielded_by _ _ c.in-None.is c.next.ensures.steps in
+    filled_all c.args.w.now c.args.at c.args.v c.loop-n.invariant seen.0

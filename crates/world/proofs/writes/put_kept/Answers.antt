@@ -8,9 +8,6 @@ use Rattle.world.proofs.writes.put_kept.Goals as goal
 pub loop-i-init : goal.loop-i-init
 loop-i-init c = wrote_none
 
-pub overflow_add-at : goal.overflow_add-at
-overflow_add-at c = omega arith
-
 pub loop-i-preserved : goal.loop-i-preserved
 loop-i-preserved c =
     wrote_more (λ k. length_transfer _) c.requires _ _ c.loop-i.invariant c.loop-i-test.true (omega arith)

@@ -1,39 +1,36 @@
--- `world::writes::send` meets its contract. Assumes nothing.
-use mathlib.Core.Path.{◌∙◌}
+-- `world::writes::send` meets its contract: the copies so far are sent. Assumes nothing.
+use mathlib.Core.Path.{refl, sym, ap, ◌∙◌}
+use mathlib.Core.List.{map, map-id}
 use native.Mathlib.Omega.{arith}
-use borrow.Author.Tests.{eq-eqb, ne_eqb}
-use Rattle.rules.specs.Sending.{place_all}
-use Rattle.state.specs.Meaning.{sending_of}
-use Rattle.world.proofs.Places.{taken_none, no_copies, sent-none, sent_same, sent_more, sent-all}
+use borrow.Author.Rules.{rules}
+use borrow.Author.Tests.{tests}
+use Rattle.std.proofs.lemmas.Iterator.{YieldsList-from_range}
+use Rattle.std.proofs.lemmas.Iterator.Consumers.{YieldsList-at, YieldsList-from_filter, YieldsList-end}
+use Rattle.rules.specs.Sets.{bit}
+use Rattle.state.specs.Meaning.{body_of, sending_of}
+use Rattle.world.specs.Commits.{message}
+use Rattle.world.proofs.Places.{taken_none, placed-none, placed_one, all_copies, receivers_found}
 use Rattle.world.proofs.writes.send.Goals as goal
-use Rattle.world.proofs.writes.send.Goals.{then-m-n-eq1, else-m-n-eq1}
 
-pub returns-then-m-eq0 : goal.returns-then-m-eq0
-unfolding sending_of place_all
-returns-then-m-eq0 c W long e = e ∙ rw (no_copies c.args.from (sending_of c.args.x) c.if-m-eq0.true)
-
-pub loop-n-init : goal.loop-n-init
-loop-n-init c = (sent-none, taken_none)
-
-pub overflow_shr-m : goal.overflow_shr-m
-overflow_shr-m c = omega arith
+pub loop-to-init : goal.loop-to-init
+loop-to-init c = (placed-none refl, taken_none)
 
 pub place-low-requires : goal.place-low-requires
-place-low-requires c = c.loop-n.invariant.1
+place-low-requires c = c.loop-to.invariant.1
 
-pub loop-n-preserved : goal.loop-n-preserved
-loop-n-preserved c =
-    elim c.if-m-n-eq1.branch [
-      | then-m-n-eq1 w ↦ rw (w.w-is, w.low-is) (
-        sent_more _ c.loop-n.invariant.0 c.loop-n-test.true (eq-eqb _ _ w.if-m-n-eq1.true) w.place-low.auto.w w.place-low.ensures.bytes,
-        w.place-low.ensures.next,
-      )
-      | else-m-n-eq1 w ↦ rw (w.w-is, w.low-is) (sent_same c.loop-n.invariant.0 c.loop-n-test.true (ne_eqb _ _ w.if-m-n-eq1.false), c.loop-n.invariant.1)
-    ]
-
-pub shape_of-w : goal.shape_of-w
-shape_of-w c = c.loop-n.invariant.0.done.long
+pub loop-to-preserved : goal.loop-to-preserved
+loop-to-preserved c =
+    (
+      placed_one c.args.from (body_of c.args.x.body) c.loop-to.yielded c.loop-to.invariant.0 c.in-Some.to c.place-low.new.w c.place-low.auto.w
+      c.place-low.ensures.bytes,
+      c.place-low.ensures.next,
+    )
 
 pub returns : goal.returns
 unfolding sending_of
-returns c = sent-all c.loop-n.invariant.0 c.loop-n-test.false
+returns c W long e =
+    let seen = YieldsList-end
+    (YieldsList-at c.into_iter-to-iterator.ensures.into_iter_gives
+    (YieldsList-from_filter _ (bit c.args.x.receivers) (YieldsList-from_range 0 12 12 (cc) (omega arith)) c.filter-to-items.ensures.closure
+    (λ x r q k. search (rules, tests)))) c.loop-to.yielded _ c.loop-to.yielded_by _ _ c.in-None.is c.next.ensures.steps in
+    rw (all_copies c.args.from (sending_of c.args.x), ← receivers_found c.args.x.receivers 12, ← seen.0, map-id c.loop-to.yielded) (c.loop-to.invariant.0.is W long e)
