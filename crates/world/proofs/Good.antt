@@ -1,15 +1,15 @@
 -- Good bytes, part by part: what is read of them is what the world that they mean has there. Assumes nothing.
 use Rattle.std.specs.Prelude.{Option, None, Some, is_some, IfSome}
 use mathlib.Core.Path.{◌≡◌, refl, sym, ap, ◌∙◌}
-use mathlib.Core.Logic.{◌≢◌, ⊎_elim}
+use mathlib.Core.Logic.{◌⊎◌, ⊎_elim}
 use mathlib.Core.Bool.{true, false, not}
 use mathlib.Core.List.{List, [], ◌∷◌}
-use Prim.Native.Nat.{ℕ, ◌+◌, ◌-◌, ◌<◌}
+use Prim.Native.Nat.{ℕ, ◌+◌, ◌-◌, ◌≤◌, ◌<◌}
 use native.Mathlib.Nat.{zero-add}
 use native.Mathlib.Omega.{arith}
 use lib.Dec.{eqb, ltb}
 use lib.ListN.{get_or-eq_default, length, get_or}
-use borrow.Author.Tests.{eq-eqb, eqb-true, not-true, ltb-true, ltb-false}
+use borrow.Author.Tests.{eq-eqb, not-true, not-false, ltb-true, ltb-false}
 use Rattle.views.proofs.Truth.{decided, contrary}
 use Rattle.rows.specs.Bytes.{u16_at}
 use Rattle.rows.proofs.Laws.{get_d_tab}
@@ -26,9 +26,7 @@ use Rattle.layout.proofs.Fits.{RelayFits}
 use Rattle.layout.proofs.World.{no_relay_lem, no_place, Shaped, WorldFits, world_fits, good_formed, good_image}
 use Rattle.layout.proofs.Read.{read_generator, read_transfer}
 use Rattle.state.specs.declared.Head.{Head}
-use Rattle.state.specs.declared.Generator as code-generator
-use Rattle.state.specs.declared.Transfer as code-transfer
-use Rattle.state.specs.Meaning.{generator_of, transfer_of, relay_of, listed}
+use Rattle.state.specs.Meaning.{relay_of, listed}
 use Rattle.image.specs.Parts.{head_at}
 use Rattle.locality.specs.Narrow.{Move, move, with_tables, narrow}
 use Rattle.world.specs.Commits.{First, row_of, ends_view, ends_move}
@@ -37,13 +35,36 @@ use Rattle.locality.proofs.Seat.{present}
 use Rattle.locality.proofs.Part.{seat_of_view, seat_of_move, generator_there, generator_absent, transfer_there, transfer_absent}
 use Rattle.world.proofs.Lists.{seat_found}
 
--- ---- whether a number is 0
+-- ---- the seat i that a search among the eight rows of xs has found: what a part shows of xs, by the row that is read there, and its number, 0 where it is not filled
 
-unfilled : (n : ℕ) → false ≡ not (eqb n 0) → n ≡ 0
-unfilled n e = ⊎_elim (λ t. eqb-true n 0 t) (λ t. absurd (contrary (rw t at e) refl)) (decided (eqb n 0))
+pub record AtSeat {A : Type 0} (number : A → ℕ) (xs : List A) (d : A) (part : List A) (i : ℕ) (x : A) : Type 0 where
+  few : length xs ≤ 8
+  present : (i < length xs) ⊎ (i ≡ length xs)
+  there : i < length xs → part ≡ get_or xs i d ∷ []
+  absent : i ≡ length xs → part ≡ []
+  row : i < 8 → x ≡ get_or xs i d
+  full : i < length xs → eqb (number (get_or xs i d)) 0 ≡ false
+  blank : number d ≡ 0
 
-filled : (n : ℕ) → true ≡ not (eqb n 0) → n ≢ 0
-filled n e z = contrary (eq-eqb n 0 z) (not-true _ (sym e))
+module _ {A : Type 0} {number : A → ℕ} {xs : List A} {d : A} {part : List A} {i : ℕ} {x : A} (at : AtSeat number xs d part i x) where
+  nothing : (i < 8 → eqb (number x) 0 ≡ true) → [] ≡ part
+  nothing e =
+      let few = at.few in
+      ⊎_elim (λ h. let l : i < 8 = omega arith in absurd (contrary (rw (at.row l) at (e l)) (at.full h))) (λ h. sym (at.absent h)) at.present
+
+  something : i < 8 → eqb (number x) 0 ≡ false → x ∷ [] ≡ part
+  something l e =
+      ⊎_elim (λ h. rw (at.row l, at.there h))
+      (λ h. absurd (contrary (eq-eqb (number x) 0 (ap number (at.row l ∙ get_or-eq_default xs d {n = i} (omega arith)) ∙ at.blank)) e)) at.present
+
+  -- the row is read only where the seat is one of the eight, and filled
+  pub shown : {C : Type 0} (means : C → A) → i < 8 → (y : Option C) → is_some y ≡ not (eqb (number x) 0) → IfSome y (λ u. means u ≡ x) → listed means y ≡ part
+  shown means l None e k = nothing (λ h. not-false _ (sym e))
+  shown means l (Some u) e k = rw k (something l (not-true _ (sym e)))
+
+-- no seat is left
+pub none_shown : {A : Type 0} {number : A → ℕ} {xs : List A} {d : A} {part : List A} {x : A} → AtSeat number xs d part 8 x → [] ≡ part
+none_shown at = nothing at (λ h. absurd (omega arith))
 
 -- ---- whatever the bytes are
 
@@ -134,48 +155,36 @@ module _ (b : List ℕ) (good : good_bytes b ≡ true) where
         seat_found r.transfers (fresh_transfer 0 0) (λ t. eqb t.new 0) (is_for o n) 8 (ends_move b (transfers_begin s) o n)
         rows.transfers.few refl filled_new (λ k h. rw (row_new k h, row_old k h)) i f
 
-    -- so what the part shows: nothing where the search finds no row, or one that is not filled
-    module _ (v : ℕ) (m : Move) (i : ℕ) (f : First 8 (ends_view b (generators_begin s) v) i) where
-      pub no_generator : (i < 8 → u16_at b (generator_begin s i) ≡ 0) → [] ≡ (narrow r v m).generators
-      no_generator e =
-          let at = seat_view v i f in
-          let few = rows.generators.few in
-          ⊎_elim (λ h. absurd (contrary (eq-eqb _ 0 (sym (row-view i (omega arith)) ∙ e (omega arith))) (filled_view i (omega arith))))
-          (λ h. sym (generator_absent s r (good_relay_lem s) v m h)) (present by_view v r.generators)
+    -- so what the part shows
+    pub generator_at_seat : (v : ℕ) (m : Move) (i : ℕ) → First 8 (ends_view b (generators_begin s) v) i
+        → AtSeat (λ (g : Generator). g.view) r.generators (fresh 0) (narrow r v m).generators i (generator_at b (generator_begin s i))
+    unfolding fresh
+    generator_at_seat v m i f =
+        let at = seat_view v i f in
+        record {
+          few = rows.generators.few;
+          present = rw at at (present by_view v r.generators);
+          there = rw at at (generator_there s r (good_relay_lem s) v m);
+          absent = rw at at (generator_absent s r (good_relay_lem s) v m);
+          row = generator_row i;
+          full = filled_view i;
+          blank = refl;
+        }
 
-      pub a_generator : i < 8 → u16_at b (generator_begin s i) ≢ 0 → generator_at b (generator_begin s i) ∷ [] ≡ (narrow r v m).generators
-      a_generator l e =
-          let at = seat_view v i f in
-          ⊎_elim (λ h. rw (generator_row i l, generator_there s r (good_relay_lem s) v m h, at))
-          (λ h. absurd (e (row-view i l ∙ ap (λ (x : Generator). x.view) (get_or-eq_default r.generators (fresh 0) {n = i} (omega arith)) ∙ (unfold fresh in refl))))
-          (present by_view v r.generators)
-
-      -- the row is read only where it is filled
-      pub generator_shown : i < 8 → (x : Option code-generator.Generator) → is_some x ≡ not (eqb (u16_at b (generator_begin s i)) 0)
-          → IfSome x (λ g. generator_of g ≡ generator_at b (generator_begin s i)) → listed generator_of x ≡ (narrow r v m).generators
-      generator_shown l None e k = no_generator (λ h. unfilled _ e)
-      generator_shown l (Some g) e k = rw k (a_generator l (filled _ e))
-
-    module _ (v o n i : ℕ) (f : First 8 (ends_move b (transfers_begin s) o n) i) where
-      pub no_transfer : (i < 8 → u16_at b (transfer_begin s i + transfer_new) ≡ 0) → [] ≡ (narrow r v (move o n)).transfers
-      no_transfer e =
-          let at = seat_move o n i f in
-          let few = rows.transfers.few in
-          ⊎_elim (λ h. absurd (contrary (eq-eqb _ 0 (sym (row_new i (omega arith)) ∙ e (omega arith))) (filled_new i (omega arith))))
-          (λ h. sym (transfer_absent s r (good_relay_lem s) v (move o n) h)) (present by_move (move o n) r.transfers)
-
-      pub a_transfer : i < 8 → u16_at b (transfer_begin s i + transfer_new) ≢ 0 → transfer_at b (transfer_begin s i) ∷ [] ≡ (narrow r v (move o n)).transfers
-      a_transfer l e =
-          let at = seat_move o n i f in
-          ⊎_elim (λ h. rw (transfer_row i l, transfer_there s r (good_relay_lem s) v (move o n) h, at))
-          (λ h. absurd (e (row_new i l ∙ ap (λ (x : Transfer). x.new) (get_or-eq_default r.transfers (fresh_transfer 0 0) {n = i} (omega arith)) ∙ (unfold fresh_transfer in refl))))
-          (present by_move (move o n) r.transfers)
-
-      -- the row is read only where it is filled
-      pub transfer_shown : i < 8 → (x : Option code-transfer.Transfer) → is_some x ≡ not (eqb (u16_at b (transfer_begin s i + transfer_new)) 0)
-          → IfSome x (λ u. transfer_of u ≡ transfer_at b (transfer_begin s i)) → listed transfer_of x ≡ (narrow r v (move o n)).transfers
-      transfer_shown l None e k = no_transfer (λ h. unfilled _ e)
-      transfer_shown l (Some u) e k = rw k (a_transfer l (filled _ e))
+    pub transfer_at_seat : (v o n i : ℕ) → First 8 (ends_move b (transfers_begin s) o n) i
+        → AtSeat (λ (t : Transfer). t.new) r.transfers (fresh_transfer 0 0) (narrow r v (move o n)).transfers i (transfer_at b (transfer_begin s i))
+    unfolding fresh_transfer
+    transfer_at_seat v o n i f =
+        let at = seat_move o n i f in
+        record {
+          few = rows.transfers.few;
+          present = rw at at (present by_move (move o n) r.transfers);
+          there = rw at at (transfer_there s r (good_relay_lem s) v (move o n));
+          absent = rw at at (transfer_absent s r (good_relay_lem s) v (move o n));
+          row = transfer_row i;
+          full = filled_new i;
+          blank = refl;
+        }
 
     pub part_is : (v : ℕ) (m : Move) (h : Head) (gs : List Generator) (ts : List Transfer) → h ≡ head_at b (relay_begin s) → gs ≡ (narrow r v m).generators → ts ≡ (narrow r v m).transfers
         → relay_of h gs ts ≡ narrow r v m

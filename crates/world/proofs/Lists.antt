@@ -1,6 +1,6 @@
 -- Lists, as the searches, counts and loops of this crate ask for them: the first that passes, the part that passes of a list that grows, and one place written with what it holds.
 -- Assumes nothing.
-use Rattle.std.specs.Prelude.{if◌then◌else◌, Option, None, Some, MatchOption, filter}
+use Rattle.std.specs.Prelude.{if◌then◌else◌, Option, None, Some, is_some, MatchOption, filter}
 use Rattle.std.specs.List.{range_with_len}
 use Rattle.std.proofs.lemmas.List.{map-id}
 use Rattle.std.proofs.lemmas.List.FromFn.{length-range_with_len, map-range_with_len_more}
@@ -14,7 +14,7 @@ use native.Mathlib.Numerals.{add-one}
 use native.Mathlib.Omega.{arith}
 use lib.Dec.{leb, ltb}
 use lib.ListN.{get_or-eq_default, length, get_or, set, length-append}
-use borrow.Author.Tests.{leb-true, leb-false, ltb-true, ltb-false}
+use borrow.Author.Tests.{lt-ltb, leb-true, leb-false, ltb-true, ltb-false}
 use Rattle.views.proofs.Truth.{decided, contrary, neither_true, either_true}
 use Rattle.rows.specs.Bytes.{tab}
 use Rattle.rules.specs.Sets.{those}
@@ -26,33 +26,36 @@ use Rattle.locality.proofs.Seat.{seat, seat_is}
 
 pub found_from : (n low : ℕ) (f : ℕ → Bool) (r : Option ℕ) → low ≤ n → ((k : ℕ) → k < low → f k ≡ false)
     → MatchOption r ((k : ℕ) → low ≤ k → k < n → f k ≡ false) (λ i. (low ≤ i) × (i < n) × (f i ≡ true) × ((k : ℕ) → low ≤ k → k < i → f k ≡ false)) → Found n f r
-found_from n low f None fits b m =
-    (
-      record {
-        within = omega arith;
-        below = λ k h. ⊎_elim (λ e. b k (ltb-true k low e)) (λ e. m k (ltb-false k low e) h) (decided (ltb k low));
-        here = λ h. absurd (omega arith);
-      },
-      tt,
-    )
-found_from n low f (Some i) fits b m =
-    (
-      record {
-        within = omega (arith, m.1);
-        below = λ k h. ⊎_elim (λ e. b k (ltb-true k low e)) (λ e. m.3 k (ltb-false k low e) h) (decided (ltb k low));
-        here = λ h. m.2;
-      },
-      m.1,
-    )
+found_from n low f None fits b m = (
+  record {
+    within = omega arith;
+    below = λ k h. ⊎_elim (λ e. b k (ltb-true k low e)) (λ e. m k (ltb-false k low e) h) (decided (ltb k low));
+    here = λ h. absurd (omega arith);
+  },
+  tt,
+)
+found_from n low f (Some i) fits b m = (
+  record {
+    within = omega (arith, m.1);
+    below = λ k h. ⊎_elim (λ e. b k (ltb-true k low e)) (λ e. m.3 k (ltb-false k low e) h) (decided (ltb k low));
+    here = λ h. m.2;
+  },
+  m.1,
+)
+
+-- a seat is found where the first that passes is one of the eight
+pub seat_room : (f : ℕ → Bool) (b : Bool) → ((i : ℕ) → First 8 f i → ltb i 8 ≡ b) → (x : Option ℕ) → Found 8 f x → is_some x ≡ b
+seat_room f b k None h = k 8 h.0
+seat_room f b k (Some i) h = sym (lt-ltb i 8 h.1) ∙ k i h.0
 
 -- ---- the part that passes
 
 module _ {A : Type 0} (f : A → Bool) (g : ℕ → A) (i : ℕ) where
-  pub those_more : f (g i) ≡ true → those f (tab (i + 1) g) ≡ those f (tab i g) ++ (g i ∷ [])
+  those_more : f (g i) ≡ true → those f (tab (i + 1) g) ≡ those f (tab i g) ++ (g i ∷ [])
   unfolding tab
   those_more e = rw (add-one, tab, those-append f (tab i g) (g i ∷ [])) (unfold those in (rw e))
 
-  pub those_same : f (g i) ≡ false → those f (tab (i + 1) g) ≡ those f (tab i g)
+  those_same : f (g i) ≡ false → those f (tab (i + 1) g) ≡ those f (tab i g)
   unfolding tab
   those_same e = rw (add-one, tab, those-append f (tab i g) (g i ∷ [])) (unfold those in (rw e (append-nil (those f (tab i g)))))
 

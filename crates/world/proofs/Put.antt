@@ -10,7 +10,7 @@ use native.Mathlib.Omega.{arith}
 use lib.Dec.{eqb, leb, ltb}
 use lib.ListN.{length, get_or}
 use lib.Seq.{get_or-set_same, set-set}
-use borrow.Author.Tests.{eq-eqb, ne_eqb, le-leb, lt-ltb}
+use borrow.Author.Tests.{eq-eqb, ne_eqb, le-leb}
 use Rattle.views.proofs.Sets.{inside_lt, inside_fact}
 use Rattle.rows.specs.Bytes.{placed, splice, table, tab, u16_at}
 use Rattle.rows.proofs.Laws.{placed_fits, run_ext}
@@ -35,7 +35,7 @@ use Rattle.image.proofs.Parts.{head_alone}
 use Rattle.locality.specs.Narrow.{move, widened}
 use Rattle.world.specs.Commits.{First, Found, ends_view, ends_move, kept_rows}
 use Rattle.locality.proofs.Part.{generators_fit, transfers_fit, generators_stay, generator_written, generator_room, transfers_stay, transfer_written, transfer_room, transfers-freed, freed_fewer}
-use Rattle.world.proofs.Lists.{set_self, those_again}
+use Rattle.world.proofs.Lists.{seat_room, set_self, those_again}
 use Rattle.world.proofs.Good.{relay_at_lem, view_at, shaped, good_relay_lem, seat_view, seat_move}
 
 -- ---- a piece written into the region of the relay s, which has become r
@@ -124,8 +124,7 @@ module _ (b : List ℕ) (good : good_bytes b ≡ true) (s : ℕ) (hs : s < 8) (p
 
   pub seated_found : (g : code-generator.Generator) → p.generator ≡ Some g → (x : Option ℕ) → Found 8 (ends_view b (generators_begin s) g.view) x
       → is_some x ≡ leb (length (widened r n).generators) 8
-  seated_found g e None f = seated_some g e 8 f.0
-  seated_found g e (Some i) f = sym (lt-ltb i 8 f.1) ∙ seated_some g e i f.0
+  seated_found g e = seat_room (ends_view b (generators_begin s) g.view) (leb (length (widened r n).generators) 8) (seated_some g e)
 
   pub moved_seated : p.head.view ≢ u16_at b (relay_begin s + head_view) → true ≡ leb (length (widened r n).transfers) 8
   moved_seated v =
@@ -144,8 +143,7 @@ module _ (b : List ℕ) (good : good_bytes b ≡ true) (s : ℕ) (hs : s < 8) (p
 
     pub moves_found : (t : code-transfer.Transfer) → p.transfer ≡ Some t → (x : Option ℕ) → Found 8 (ends_move b (transfers_begin s) t.old t.new) x
         → is_some x ≡ leb (length (widened r n).transfers) 8
-    moves_found t e None f = moves_seated t e 8 f.0
-    moves_found t e (Some i) f = sym (lt-ltb i 8 f.1) ∙ moves_seated t e i f.0
+    moves_found t e = seat_room (ends_move b (transfers_begin s) t.old t.new) (leb (length (widened r n).transfers) 8) (moves_seated t e)
 
   -- ---- the transfers are written
 

@@ -46,7 +46,11 @@ pub(crate) fn receivers(m: u16) -> usize
 fn has_free(w: &[u8], n: usize) -> bool
     ensures { result ≡ leb n (free_rows w.now 256) }
 {
-    (0..rules::PLACES).filter(|p| is_free(w, *p)).take(n).count() == n
+    (0..rules::PLACES)
+        .filter(|p| is_free(w, *p))
+        .take(n)
+        .count()
+        == n
 }
 
 // How many messages go out, whoever sends these.
@@ -167,8 +171,12 @@ fn transfer_seated(w: &[u8], s: u8, part: Part) -> bool
 {
     let at = s as usize * layout::RELAY_WIDTH;
     part.head.view != rows::read_u16(w, at + layout::HEAD_VIEW)
-        || part.transfer
-            .is_none_or(|t| transfer_seat(w, at + layout::RELAY_TRANSFERS, t.old, t.new).is_some())
+        || part.transfer.is_none_or(|t| transfer_seat(
+            w,
+            at + layout::RELAY_TRANSFERS,
+            t.old,
+            t.new,
+        ).is_some())
 }
 
 // NO ROOM: "the step needs more [..] generators or transfers than are free at its begin"

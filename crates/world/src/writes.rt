@@ -19,7 +19,9 @@ use state::{Body, Message, Part, Sending, Sendings, Transfer};
 pub(crate) fn free(w: &mut [u8], p: Option<u8>)
     ensures { (W : World) → length W.places ≡ 256 → w.old ≡ image W → w.new ≡ image (freed_at W (unwrap_or p 256)) }
 {
-    let Some(p) = p else { return; };
+    let Some(p) = p else {
+        return;
+    };
     rows::clear(
         w,
         layout::WORLD_PLACES + p as usize * layout::MESSAGE_WIDTH,
@@ -34,7 +36,9 @@ fn place(w: &mut [u8], low: usize, from: u8, to: u8, body: Body) -> usize
     ensures bytes { (W : World) → length W.places ≡ 256 → w.old ≡ image W
         → w.new ≡ image (with_places W (rules.place (message from (body_of body) to) W.places)) }
 {
-    let Some(p) = super::reads::first_free(w, low) else { return low; };
+    let Some(p) = super::reads::first_free(w, low) else {
+        return low;
+    };
     let m = Message {
         from,
         to,
@@ -116,8 +120,12 @@ fn put_transfers(w: &mut [u8], s: u8, part: Part)
         put_kept(w, transfers, &kept);
         return;
     }
-    let Some(t) = part.transfer else { return; };
-    let Some(i) = super::reads::transfer_seat(w, transfers, t.old, t.new) else { return; };
+    let Some(t) = part.transfer else {
+        return;
+    };
+    let Some(i) = super::reads::transfer_seat(w, transfers, t.old, t.new) else {
+        return;
+    };
     image::put_transfer(w, transfers + i * layout::TRANSFER_WIDTH, t);
 }
 
@@ -133,11 +141,16 @@ pub(crate) fn put_part(w: &mut [u8], s: u8, part: Part)
     let at = s as usize * layout::RELAY_WIDTH;
     let generators = at + layout::RELAY_GENERATORS;
     // looked up before anything is written
-    let seat = part.generator
+    let seat = part
+        .generator
         .and_then(|g| super::reads::generator_seat(w, generators, g.view));
     put_transfers(w, s, part);
     image::put_head(w, at, part.head);
-    let Some(g) = part.generator else { return; };
-    let Some(i) = seat else { return; };
+    let Some(g) = part.generator else {
+        return;
+    };
+    let Some(i) = seat else {
+        return;
+    };
     image::put_generator(w, generators + i * layout::GENERATOR_WIDTH, g);
 }

@@ -1,16 +1,18 @@
 -- `world::reads::generator_in` meets its contract. Assumes nothing.
-use native.Mathlib.Omega.{arith}
 use borrow.Author.Rules.{rules}
 use Rattle.std.proofs.lemmas.Option.{IfSome_then}
+use Rattle.layout.specs.Image.{generator_at}
+use Rattle.state.specs.Meaning.{generator_of}
 use Rattle.image.proofs.Meaning.{generator_read}
-use Rattle.world.proofs.Good.{no_generator, generator_shown}
+use Rattle.world.proofs.Good.{generator_at_seat, shown, none_shown}
 use Rattle.world.proofs.reads.generator_in.Goals as goal
 
 pub returns-in_err-row : goal.returns-in_err-row
 returns-in_err-row c m =
-    rw c.from_residual.ensures (no_generator c.args.w.now c.requires.0 c.args.s c.requires.1 c.args.v m 8 c.in_err-row.ensures.0 (λ h. absurd (omega arith)))
+    rw c.from_residual.ensures (none_shown (generator_at_seat c.args.w.now c.requires.0 c.args.s c.requires.1 c.args.v m 8 c.in_err-row.ensures.0))
 
 pub returns : goal.returns
+unfolding generator_at
 returns c m =
-    generator_shown c.args.w.now c.requires.0 c.args.s c.requires.1 c.args.v m c.in_ok-row.field-0 c.in_ok-row.ensures.0 c.in_ok-row.ensures.1 c.then.result
-    (rw (← c.read_u16.ensures) c.then.ensures.variant) (IfSome_then c.then.result c.then.ensures.some (λ x q. generator_read _ _ (search rules)))
+    shown (generator_at_seat c.args.w.now c.requires.0 c.args.s c.requires.1 c.args.v m c.in_ok-row.field-0 c.in_ok-row.ensures.0) generator_of
+    c.in_ok-row.ensures.1 c.then.result (rw (← c.read_u16.ensures) c.then.ensures.variant) (IfSome_then c.then.result c.then.ensures.some (λ x q. generator_read _ _ (search rules)))

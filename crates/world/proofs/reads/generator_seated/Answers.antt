@@ -1,5 +1,5 @@
 -- `world::reads::generator_seated` meets its contract. Assumes nothing.
-use mathlib.Core.Path.{◌≡◌, ◌∙◌}
+use mathlib.Core.Path.{◌∙◌}
 use borrow.Author.Rules.{rules}
 use Rattle.world.proofs.Lists.{by_option}
 use Rattle.world.proofs.Put.{seated_none, seated_found}

@@ -1,11 +1,12 @@
 -- `world::writes::put_transfers` meets its contract. Assumes nothing.
-use mathlib.Core.Path.{refl, sym, ◌∙◌}
+use Rattle.std.specs.Prelude.{None}
+use mathlib.Core.Path.{sym, ◌∙◌}
 use mathlib.Core.List.{map}
 use native.Mathlib.Omega.{arith}
 use Rattle.views.proofs.Truth.{contrary}
 use Rattle.layout.proofs.World.{good_length}
 use Rattle.state.specs.Meaning.{transfer_of}
-use Rattle.world.proofs.Put.{moved-written, stays_written, moves_written, moves_seated}
+use Rattle.world.proofs.Put.{moved-written, stays_written, moves_written, moves_found}
 use Rattle.world.proofs.writes.put_transfers.Goals as goal
 
 pub put_kept-requires : goal.put_kept-requires
@@ -24,8 +25,7 @@ returns-in_default c h =
 pub returns-in_default-transfer_seat : goal.returns-in_default-transfer_seat
 returns-in_default-transfer_seat c h =
     let same = c.if-view-read_u16.false ∙ c.read_u16.ensures in
-    let low = moves_seated c.args.w.now c.requires.0 c.args.s c.requires.1 c.args.part same c.in-Some.t c.in-Some.is 8 c.in_default-transfer_seat.ensures.0 in
-    absurd (contrary (low ∙ h) refl)
+    absurd (contrary h (sym (moves_found c.args.w.now c.requires.0 c.args.s c.requires.1 c.args.part same c.in-Some.t c.in-Some.is None c.in_default-transfer_seat.ensures)))
 
 pub returns : goal.returns
 returns c h =

@@ -1,6 +1,6 @@
 -- `world::writes::send` meets its contract: the copies so far are sent. Assumes nothing.
-use mathlib.Core.Path.{refl, sym, ap, ◌∙◌}
-use mathlib.Core.List.{map, map-id}
+use mathlib.Core.Path.{refl}
+use mathlib.Core.List.{map-id}
 use native.Mathlib.Omega.{arith}
 use borrow.Author.Rules.{rules}
 use borrow.Author.Tests.{tests}
@@ -8,7 +8,6 @@ use Rattle.std.proofs.lemmas.Iterator.{YieldsList-from_range}
 use Rattle.std.proofs.lemmas.Iterator.Consumers.{YieldsList-at, YieldsList-from_filter, YieldsList-end}
 use Rattle.rules.specs.Sets.{bit}
 use Rattle.state.specs.Meaning.{body_of, sending_of}
-use Rattle.world.specs.Commits.{message}
 use Rattle.world.proofs.Places.{taken_none, placed-none, placed_one, all_copies, receivers_found}
 use Rattle.world.proofs.writes.send.Goals as goal
 
@@ -19,12 +18,11 @@ pub place-low-requires : goal.place-low-requires
 place-low-requires c = c.loop-to.invariant.1
 
 pub loop-to-preserved : goal.loop-to-preserved
-loop-to-preserved c =
-    (
-      placed_one c.args.from (body_of c.args.x.body) c.loop-to.yielded c.loop-to.invariant.0 c.in-Some.to c.place-low.new.w c.place-low.auto.w
+loop-to-preserved c = (
+  placed_one c.args.from (body_of c.args.x.body) c.loop-to.yielded c.loop-to.invariant.0 c.in-Some.to c.place-low.new.w c.place-low.auto.w
       c.place-low.ensures.bytes,
-      c.place-low.ensures.next,
-    )
+  c.place-low.ensures.next,
+)
 
 pub returns : goal.returns
 unfolding sending_of
