@@ -81,25 +81,18 @@ relay_left b n p s a = left b (relay_does (freed_at (world_at b) p) n s (widens 
 unfoldable pub desk_left : List ℕ → ℕ → ℕ → ℕ → Answer Desk → Lent
 desk_left b n p d a = left b (desk_does (freed_at (world_at b) p) n d a)
 
--- ---- asked: what a kind asks, and who acts
+-- ---- asked: what a kind asks of the relay s or the desk n. BAD STEP: "id [..] out of range"; DEAD: "actor [..] crashed"
 
-abbrev pub relay_acts : World → ℕ → ℕ → Outcome
-relay_acts w kind s = relay_does w 0 s (relay_asked kind s (relay_at w s))
+abbrev pub relay_steps : World → ℕ → ℕ → Outcome
+relay_steps w kind s = if ltb s relay_count then if_alive w s (relay_does w 0 s (relay_asked kind s (relay_at w s))) else refusal bad_step
 
-abbrev pub desk_acts : World → ℕ → ℕ → ℕ → Outcome
-desk_acts w kind n x = desk_does w 0 n (desk_asked kind x (desk_at w n))
+abbrev pub desk_steps : World → ℕ → ℕ → ℕ → Outcome
+desk_steps w kind n x =
+    if ltb n desk_count then if_alive w (relay_count + n) (desk_does w 0 n (desk_asked kind x (desk_at w n))) else refusal bad_step
 
--- "6 DELIVER place, 7 DROP place"
-abbrev pub place_act : ℕ → ℕ → Act
-place_act kind p = if eqb kind DELIVER then deliver p else drop p
-
--- who acts in a step of the kind, 0..7 relays, 8..11 desks; 12 is nobody
-unfoldable pub actor_of : ℕ → ℕ → ℕ
-actor_of kind id =
-    if (leb JOIN kind && leb kind TIMER) && ltb id relay_count then id
-    else if (leb READ kind && leb kind WRITE) && ltb id desk_count then relay_count + id
-    else if eqb kind CRASH && ltb id everyone then id
-    else everyone
+-- "CRASH target crashed"
+abbrev pub crash_steps : World → ℕ → Outcome
+crash_steps w who = if ltb who everyone then if_alive w who (crashing w who) else refusal bad_step
 
 -- ---- begun: the first n relays and m desks of a start are there
 

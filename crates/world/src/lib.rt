@@ -2,7 +2,7 @@
 // so a refused step changes no byte.
 #![tactic(auto)]
 
-ghost use Rattle.std.specs.Prelude.{◌≡◌, true, false, List, ℕ, ◌≤◌, ◌<◌};
+ghost use Rattle.std.specs.Prelude.{◌≡◌, true, ℕ, ◌≤◌, ◌<◌, Result, unwrap_or};
 ghost use Rattle.rules.specs.Messages as rules;
 ghost use Rattle.rules.specs.State.{Relay, no_relay, no_desk, waiting, place_at};
 ghost use Rattle.rules.specs.declared.Desk as code;
@@ -11,22 +11,30 @@ ghost use Rattle.layout.specs.Image.{world_at, good_bytes};
 ghost use Rattle.layout.specs.Lent as lent;
 ghost use Rattle.state.specs.Meaning.{part_of, body_of, message_of, event_of};
 ghost use Rattle.state.specs.Plans.{plan_of, desk_plan_of, planned};
-ghost use Rattle.relay.specs.Fitting.{shows_view};
-ghost use Rattle.world.specs.Answer.{lent_of, accepted};
+ghost use Rattle.world.specs.Answer.{report_of, answer_of, lent_of, done_of};
 ghost use Rattle.locality.specs.Narrow.{generator_of_body, move, move_of_body};
 ghost use Rattle.locality.specs.Asked.{Few, relay_asked, desk_asked};
-ghost use Rattle.world.specs.Commits.{free_row, delivered, relay_left, desk_left, relay_acts, desk_acts, place_act, actor_of};
+ghost use Rattle.relay.specs.Fitting.{shows_view};
+ghost use Rattle.rules.specs.declared.Refusal as code-refusal;
+ghost use Rattle.state.specs.declared.Part as code-part;
+ghost use Rattle.state.specs.declared.Plan as code-plan;
+ghost use Rattle.world.specs.Commits.{delivered, relay_left, desk_left, relay_steps, desk_steps, crash_steps};
 ghost use Rattle.world.specs.Tracing.{waiting_rows};
 
-use layout::{DESK_WIDTH, WORLD_DESKS};
-use rules::{Desk, Step};
+use layout::MessageKind;
+use rules::{Desk, Refusal, Step, StepKind};
 use stamps::Pair;
-use state::{Body, DeskPlan, Event, Message, Part, Plan};
+use state::{Body, Event, Message, Part, Plan};
 
 mod begin; // what a start writes
 mod reads; // what a step looks up
 pub mod run; // a whole sheet
 mod writes; // what it writes
+
+// Who: "0..7 relays, 8..11 desks".
+const FIRST_DESK: u8 = rules::RELAYS as u8;
+
+const EVERYONE: u8 = rules::EVERYONE as u8;
 
 // "event": none, a view opened, a read or a write ended.
 #[derive(Clone, Copy)]
@@ -37,150 +45,141 @@ pub enum Report {
     WriteDone { desk: u8, pair: Pair },
 }
 
-// A step's answer: its number, and what it reports.
+// A step's answer: its number, and what it reports. (Document 01, "Places and their forms": "a step answer struct holding an event enum".)
 #[derive(Clone, Copy)]
 pub struct Answer {
     pub number: u8,
     pub report: Report,
 }
 
-// ---- answers
-
 // "All but 0 report event 0 with zero fields and change nothing."
-fn refuses(number: u8) -> Answer
-    ensures { (x : rules.Refusal) (b : List ℕ) → number ≡ rules.number x → lent_of result b ≡ lent.kept x b }
-{
-    Answer {
-        number: number,
-        report: Report::Nothing,
+impl From<Result<Report, Refusal>> for Answer {
+    ghost from_gives = { λ done answer. answer ≡ answer_of done };
+
+    fn from(done: Result<Report, Refusal>) -> Self {
+        match done {
+            Ok(report) => Answer { number: 0, report },
+            Err(refusal) => Answer {
+                number: refusal.number(),
+                report: Report::Nothing,
+            },
+        }
     }
 }
 
 // Done: the event, and the relay or the desk that it is about.
-fn tells(event: Event, who: u8) -> Answer
-    ensures { (b : List ℕ) → lent_of result b ≡ accepted (steps.reports (event_of event) who) b }
+fn tells(event: Event, who: u8) -> Report
+    ensures { report_of result ≡ steps.reports (event_of event) who }
 {
-    let report = match event {
+    match event {
         Event::Nothing => Report::Nothing,
-        Event::Opened(view) => Report::Opened {
-            relay: who,
-            view: view,
-        },
-        Event::ReadDone(pair) => Report::ReadDone {
-            desk: who,
-            pair: pair,
-        },
-        Event::WriteDone(pair) => Report::WriteDone {
-            desk: who,
-            pair: pair,
-        },
-    };
-    Answer {
-        number: 0,
-        report: report,
+        Event::Opened(view) => Report::Opened { relay: who, view },
+        Event::ReadDone(pair) => Report::ReadDone { desk: who, pair },
+        Event::WriteDone(pair) => Report::WriteDone { desk: who, pair },
     }
 }
 
 // ---- commits
 
-// What the relay s answers is refused, or done; p is the delivered place, 256 where there is none.
-fn relay_commits(w: &mut [u8], s: u8, p: usize, plan: Plan) -> Answer
+// What the relay s answers is refused, or done; p is the delivered place, if any.
+fn relay_commits(
+    w: &mut [u8],
+    s: u8,
+    p: Option<u8>,
+    plan: Result<Plan<Part>, Refusal>,
+) -> Result<Report, Refusal>
     requires { (good_bytes w.old ≡ true) × (s < 8) }
-    ensures { (n : ℕ) (a : rules.Answer Relay) → plan_of plan ≡ planned no_relay a → Few a → delivered (world_at w.old) p ≡ true
-        → lent_of result w.new ≡ relay_left w.old n p s a }
+    ensures { (n : ℕ) (a : rules.Answer Relay) → plan_of plan ≡ planned no_relay a → Few a → delivered (world_at w.old) (unwrap_or p 256) ≡ true
+        → done_of result w.new ≡ relay_left w.old n (unwrap_or p 256) s a }
 {
-    let answer = plan.answer;
-    let part = plan.part;
-    let sends = plan.sends;
-    let event = plan.event;
-    if answer != 0 {
-        return refuses(answer);
+    let plan = plan?;
+    if !reads::has_room(w, p, plan.sends) {
+        return Err(Refusal::NoRoom);
     }
-    if !reads::has_room(w, p, sends) {
-        return refuses(rules::NO_ROOM);
+    if !reads::has_seats(w, s, plan.next) {
+        return Err(Refusal::NoRoom);
     }
-    if !reads::has_seats(w, s, part) {
-        return refuses(rules::NO_ROOM);
-    }
-    writes::put_part(w, s, part);
+    writes::put_part(w, s, plan.next);
     writes::free(w, p);
-    writes::send_all(w, s, sends);
-    tells(event, s)
+    writes::send_all(w, s, plan.sends);
+    Ok(tells(plan.event, s))
 }
 
 // The same of the desk n.
-fn desk_commits(w: &mut [u8], n: u8, p: usize, plan: DeskPlan) -> Answer
+fn desk_commits(
+    w: &mut [u8],
+    n: u8,
+    p: Option<u8>,
+    plan: Result<Plan<Desk>, Refusal>,
+) -> Result<Report, Refusal>
     requires { (good_bytes w.old ≡ true) × (n < 4) }
-    ensures { (k : ℕ) (a : rules.Answer code.Desk) → desk_plan_of plan ≡ planned no_desk a → Few a → delivered (world_at w.old) p ≡ true
-        → lent_of result w.new ≡ desk_left w.old k p n a }
+    ensures { (k : ℕ) (a : rules.Answer code.Desk) → desk_plan_of plan ≡ planned no_desk a → Few a → delivered (world_at w.old) (unwrap_or p 256) ≡ true
+        → done_of result w.new ≡ desk_left w.old k (unwrap_or p 256) n a }
 {
-    let answer = plan.answer;
-    let desk = plan.desk;
-    let sends = plan.sends;
-    let event = plan.event;
-    if answer != 0 {
-        return refuses(answer);
+    let plan = plan?;
+    let number = FIRST_DESK + n;
+    if !reads::has_room(w, p, plan.sends) {
+        return Err(Refusal::NoRoom);
     }
-    if !reads::has_room(w, p, sends) {
-        return refuses(rules::NO_ROOM);
-    }
-    image::put_desk(w, WORLD_DESKS + n as usize * DESK_WIDTH, desk);
+    image::put_desk(w, reads::row_of(number), plan.next);
     writes::free(w, p);
-    writes::send_all(w, 8 + n, sends);
-    tells(event, n)
+    writes::send_all(w, number, plan.sends);
+    Ok(tells(plan.event, n))
 }
 
-// ---- steps of a relay
+// ---- steps of a relay and of a desk
 
-// What the kind asks of the relay s; the part shows the generator of its own view.
-fn relay_asked(kind: u8, s: u8, part: Part) -> Plan
-    requires { (s < 8) × (shows_view (part_of part).view (part_of part) ≡ true) }
-    ensures { plan_of result ≡ planned no_relay (relay_asked kind s (part_of part)) }
+// "1 JOIN relay, 2 LEAVE relay, 3 TIMER relay": what the step asks of the relay s, of which it sees the generator of its own view.
+fn relay_acts<F: FnOnce(u8, Part) -> Result<Plan<Part>, Refusal>>(
+    w: &mut [u8],
+    s: u8,
+    ask: F,
+) -> Result<Report, Refusal>
+    requires good { good_bytes w.old ≡ true }
+    requires callable { F.IsAlwaysCallable ask }
+    ensures { (kind : ℕ)
+        → ((part : code-part.Part) (plan : Result (code-plan.Plan code-part.Part) code-refusal.Refusal) → s < 8 → shows_view (part_of part).view (part_of part) ≡ true
+            → F.post ask s part plan → plan_of plan ≡ planned no_relay (relay_asked kind s (part_of part)))
+        → done_of result w.new ≡ lent.left w.old (relay_steps (world_at w.old) kind s) }
 {
-    if kind == rules::JOIN {
-        return relay::join_asked(s, part);
+    if FIRST_DESK <= s {
+        return Err(Refusal::BadStep);
     }
-    if kind == rules::LEAVE {
-        return relay::leave_asked(s, part);
+    if !reads::alive_at(w, s) {
+        return Err(Refusal::Dead);
     }
-    relay::timer_rang(part)
-}
-
-// "1 JOIN relay, 2 LEAVE relay, 3 TIMER relay"
-fn relay_acts(w: &mut [u8], kind: u8, s: u8) -> Answer
-    requires { (good_bytes w.old ≡ true) × (s < 8) }
-    ensures { lent_of result w.new ≡ lent.left w.old (relay_acts (world_at w.old) kind s) }
-{
-    let view = rows::read_u16(w, s as usize * layout::RELAY_WIDTH + layout::HEAD_VIEW);
+    let view = rows::read_u16(w, reads::row_of(s) + layout::HEAD_VIEW);
     let part = reads::part_at(w, s, view, 0, 0);
-    let plan = relay_asked(kind, s, part);
-    relay_commits(w, s, 256, plan)
+    relay_commits(w, s, None, ask(s, part))
 }
 
-// ---- steps of a desk
-
-fn desk_asked(kind: u8, x: u32, desk: Desk) -> DeskPlan
-    ensures { desk_plan_of result ≡ planned no_desk (desk_asked kind x desk) }
+// "4 READ desk, 5 WRITE desk value": what the step asks of the desk n.
+fn desk_acts<F: FnOnce(Desk) -> Result<Plan<Desk>, Refusal>>(
+    w: &mut [u8],
+    n: u8,
+    ask: F,
+) -> Result<Report, Refusal>
+    requires good { good_bytes w.old ≡ true }
+    requires callable { F.IsAlwaysCallable ask }
+    ensures { (kind x : ℕ)
+        → ((desk : code.Desk) (plan : Result (code-plan.Plan code.Desk) code-refusal.Refusal)
+            → F.post ask desk plan → desk_plan_of plan ≡ planned no_desk (desk_asked kind x desk))
+        → done_of result w.new ≡ lent.left w.old (desk_steps (world_at w.old) kind n x) }
 {
-    if kind == rules::WRITE {
-        return desk::write_asked(desk, x);
+    if rules::DESKS <= n as usize {
+        return Err(Refusal::BadStep);
     }
-    desk::read_asked(desk)
-}
-
-// "4 READ desk, 5 WRITE desk value"
-fn desk_acts(w: &mut [u8], kind: u8, n: u8, x: u32) -> Answer
-    requires { (good_bytes w.old ≡ true) × (n < 4) }
-    ensures { lent_of result w.new ≡ lent.left w.old (desk_acts (world_at w.old) kind n x) }
-{
-    let desk = image::desk_at(w, WORLD_DESKS + n as usize * DESK_WIDTH);
-    let plan = desk_asked(kind, x, desk);
-    desk_commits(w, n, 256, plan)
+    let number = FIRST_DESK + n;
+    if !reads::alive_at(w, number) {
+        return Err(Refusal::Dead);
+    }
+    let desk = image::desk_at(w, reads::row_of(number));
+    desk_commits(w, n, None, ask(desk))
 }
 
 // ---- delivery
 
-// Which generator, and which transfer, a message is about; 0 where none.
+// Which generator, and which transfer, a message is about; view 0, which is no view, where none.
 #[derive(Clone, Copy)]
 struct About {
     generator: u16,
@@ -191,164 +190,159 @@ struct About {
 fn about_of(b: Body) -> About
     ensures { (result.generator ≡ generator_of_body (body_of b)) × (move result.old result.new ≡ move_of_body (body_of b)) }
 {
-    let kind = b.kind;
-    if (kind == layout::INSTALL) | (kind == layout::STATE) {
-        return About {
-            generator: b.second,
-            old: b.first,
-            new: b.second,
-        };
-    }
-    if (kind == layout::PROPOSAL) | (kind == layout::CONVERGED) {
-        return About {
-            generator: b.first,
-            old: 0,
-            new: 0,
-        };
-    }
-    About {
+    let none = About {
         generator: 0,
         old: 0,
         new: 0,
+    };
+    match MessageKind::from(b.kind) {
+        MessageKind::Install | MessageKind::State => About {
+            generator: b.second,
+            old: b.first,
+            new: b.second,
+        },
+        MessageKind::Proposal | MessageKind::Converged => About {
+            generator: b.first,
+            ..none
+        },
+        MessageKind::Request | MessageKind::View => none,
+        MessageKind::Get | MessageKind::Put => none,
+        MessageKind::ViewReply | MessageKind::PairReply | MessageKind::Ack => none,
     }
 }
 
-fn to_relay(w: &mut [u8], p: usize, m: Message) -> Answer
-    requires { (good_bytes w.old ≡ true) × ((p < 256) × ((place_at (world_at w.old) p ≡ waiting (message_of m)) × (m.to < 8))) }
-    ensures { lent_of result w.new ≡ lent.left w.old (steps.delivers (steps.freed (world_at w.old) p) (message_of m)) }
+fn to_relay(w: &mut [u8], p: u8, m: Message) -> Result<Report, Refusal>
+    requires { (good_bytes w.old ≡ true) × ((place_at (world_at w.old) p ≡ waiting (message_of m)) × (m.to < 8)) }
+    ensures { done_of result w.new ≡ lent.left w.old (steps.delivers (steps.freed (world_at w.old) p) (message_of m)) }
 {
     let to = m.to;
-    let from = m.from;
     let body = m.body;
     let about = about_of(body);
     let part = reads::part_at(w, to, about.generator, about.old, about.new);
-    let plan = relay::hears(to, part, from, body);
-    relay_commits(w, to, p, plan)
+    relay_commits(w, to, Some(p), relay::hears(to, part, m.from, body))
 }
 
-fn to_desk(w: &mut [u8], p: usize, m: Message) -> Answer
-    requires { (good_bytes w.old ≡ true) × ((p < 256) × ((place_at (world_at w.old) p ≡ waiting (message_of m)) × ((8 ≤ m.to) × (m.to < 12)))) }
-    ensures { lent_of result w.new ≡ lent.left w.old (steps.delivers (steps.freed (world_at w.old) p) (message_of m)) }
+fn to_desk(w: &mut [u8], p: u8, m: Message) -> Result<Report, Refusal>
+    requires { (good_bytes w.old ≡ true) × ((place_at (world_at w.old) p ≡ waiting (message_of m)) × ((8 ≤ m.to) × (m.to < 12))) }
+    ensures { done_of result w.new ≡ lent.left w.old (steps.delivers (steps.freed (world_at w.old) p) (message_of m)) }
 {
-    let n = m.to - 8;
-    let from = m.from;
+    let n = m.to - FIRST_DESK;
     let body = m.body;
-    let desk = image::desk_at(w, WORLD_DESKS + n as usize * DESK_WIDTH);
-    let plan = desk::hears(n, desk, from, body);
-    desk_commits(w, n, p, plan)
+    let desk = image::desk_at(w, reads::row_of(m.to));
+    desk_commits(w, n, Some(p), desk::hears(n, desk, m.from, body))
 }
 
-fn deliver(w: &mut [u8], p: usize) -> Answer
-    requires { (good_bytes w.old ≡ true) × ((p < 256) × (free_row w.old p ≡ false)) }
-    ensures { lent_of result w.new ≡ lent.left w.old (steps.acts (world_at w.old) (steps.deliver p)) }
+// "6 DELIVER place"
+fn deliver(w: &mut [u8], p: u8) -> Result<Report, Refusal>
+    requires { good_bytes w.old ≡ true }
+    ensures { done_of result w.new ≡ lent.left w.old (steps.acts (world_at w.old) (steps.deliver p)) }
 {
-    let m = image::message_at(w, layout::WORLD_PLACES + p * layout::MESSAGE_WIDTH);
-    if !reads::alive_at(w, m.to) {
-        return refuses(rules::DEAD);
+    if reads::is_free(w, p as usize) {
+        return Err(Refusal::Empty);
     }
-    if m.to < 8 {
+    let m = image::message_at(
+        w,
+        layout::WORLD_PLACES + p as usize * layout::MESSAGE_WIDTH,
+    );
+    if !reads::alive_at(w, m.to) {
+        return Err(Refusal::Dead);
+    }
+    if m.to < FIRST_DESK {
         return to_relay(w, p, m);
     }
     to_desk(w, p, m)
 }
 
-// "6 DELIVER place, 7 DROP place"; "DROP only frees"
-fn place_acts(w: &mut [u8], kind: u8, id: u8) -> Answer
+// "7 DROP place"; "DROP only frees"
+fn drops(w: &mut [u8], p: u8) -> Result<Report, Refusal>
     requires { good_bytes w.old ≡ true }
-    ensures { lent_of result w.new ≡ lent.left w.old (steps.acts (world_at w.old) (place_act kind id)) }
+    ensures { done_of result w.new ≡ lent.left w.old (steps.acts (world_at w.old) (steps.drop p)) }
 {
-    let p = id as usize;
-    if reads::is_free(w, p) {
-        return refuses(rules::EMPTY);
+    if reads::is_free(w, p as usize) {
+        return Err(Refusal::Empty);
     }
-    if kind == rules::DELIVER {
-        return deliver(w, p);
-    }
-    writes::free(w, p);
-    tells(Event::Nothing, 0)
+    writes::free(w, Some(p));
+    Ok(Report::Nothing)
 }
 
-// "CRASH only ends alive"
-fn crash(w: &mut [u8], who: u8) -> Answer
-    requires { (good_bytes w.old ≡ true) × (who < 12) }
-    ensures { lent_of result w.new ≡ lent.left w.old (steps.crashing (world_at w.old) who) }
+// "8 CRASH who"; "CRASH only ends alive"
+fn crash(w: &mut [u8], who: u8) -> Result<Report, Refusal>
+    requires { good_bytes w.old ≡ true }
+    ensures { done_of result w.new ≡ lent.left w.old (crash_steps (world_at w.old) who) }
 {
+    if EVERYONE <= who {
+        return Err(Refusal::BadStep);
+    }
+    if !reads::alive_at(w, who) {
+        return Err(Refusal::Dead);
+    }
     rows::put_byte(w, reads::row_of(who), 0);
-    tells(Event::Nothing, 0)
+    Ok(Report::Nothing)
 }
 
 // ---- one step
 
-// Who acts in a step of JOIN, LEAVE, TIMER, READ, WRITE or CRASH; 12 for an id out of range, and for no such kind.
-fn actor(kind: u8, id: u8) -> u8
-    ensures { result ≡ actor_of kind id }
-{
-    if (rules::JOIN <= kind) & (kind <= rules::TIMER) & (id < 8) {
-        return id;
-    }
-    if (rules::READ <= kind) & (kind <= rules::WRITE) & (id < 4) {
-        return 8 + id;
-    }
-    if (kind == rules::CRASH) & (id < 12) {
-        return id;
-    }
-    12
-}
-
 // A step of a good world.
-fn step_good(w: &mut [u8], k: Step) -> Answer
+fn step_good(w: &mut [u8], k: Step) -> Result<Report, Refusal>
     requires { good_bytes w.old ≡ true }
-    ensures { lent_of result w.new ≡ lent.lent_step w.old k }
+    ensures { done_of result w.new ≡ lent.lent_step w.old k }
 {
-    let kind = k.kind;
-    if (kind != rules::WRITE) & (k.value != 0) {
-        return refuses(rules::BAD_STEP);
+    let kind = StepKind::try_from(k.kind)?;
+    if kind != StepKind::Write && k.value != 0 {
+        return Err(Refusal::BadStep);
     }
-    if (kind == rules::DELIVER) | (kind == rules::DROP) {
-        return place_acts(w, kind, k.id);
+    match kind {
+        StepKind::Join => relay_acts(w, k.id, relay::join_asked),
+        StepKind::Leave => relay_acts(w, k.id, relay::leave_asked),
+        StepKind::Timer => relay_acts(w, k.id, |_s, part| relay::timer_rang(part)),
+        StepKind::Read => desk_acts(w, k.id, desk::read_asked),
+        StepKind::Write => desk_acts(w, k.id, |desk| desk::write_asked(desk, k.value)),
+        StepKind::Deliver => deliver(w, k.id),
+        StepKind::Drop => drops(w, k.id),
+        StepKind::Crash => crash(w, k.id),
     }
-    let who = actor(kind, k.id);
-    if 12 <= who {
-        return refuses(rules::BAD_STEP);
-    }
-    if !reads::alive_at(w, who) {
-        return refuses(rules::DEAD);
-    }
-    if kind == rules::CRASH {
-        return crash(w, who);
-    }
-    if who < 8 {
-        return relay_acts(w, kind, who);
-    }
-    desk_acts(w, kind, who - 8, k.value)
 }
 
-// Any step on any buffer. BAD WORLD: "world not good".
-pub fn step(w: &mut [u8], k: Step) -> Answer
-    ensures { lent_of result w.new ≡ lent.lent_step w.old k }
+// BAD WORLD: "world not good".
+fn step_any(w: &mut [u8], k: Step) -> Result<Report, Refusal>
+    ensures { done_of result w.new ≡ lent.lent_step w.old k }
 {
     if !good::is_good(w) {
-        return refuses(rules::BAD_WORLD);
+        return Err(Refusal::BadWorld);
     }
     step_good(w, k)
 }
 
+// Any step on any buffer.
+pub fn step(w: &mut [u8], k: Step) -> Answer
+    ensures { lent_of result w.new ≡ lent.lent_step w.old k }
+{
+    step_any(w, k).into()
+}
+
 // ---- the start
+
+// BAD WORLD for another length, then BAD STEP for mask 0.
+fn start_any(w: &mut [u8], mask: u8) -> Result<Report, Refusal>
+    ensures { done_of result w.new ≡ lent.lent_start w.old mask }
+{
+    if w.len() != layout::WORLD_WIDTH {
+        return Err(Refusal::BadWorld);
+    }
+    if mask == 0 {
+        return Err(Refusal::BadStep);
+    }
+    rows::clear(w, 0, layout::WORLD_WIDTH);
+    begin::put_relays(w, mask);
+    begin::put_desks(w, mask);
+    Ok(Report::Nothing)
+}
 
 // "Start: a mask 1..255 of relays."
 pub fn start(w: &mut [u8], mask: u8) -> Answer
     ensures { lent_of result w.new ≡ lent.lent_start w.old mask }
 {
-    if w.len() != layout::WORLD_WIDTH {
-        return refuses(rules::BAD_WORLD);
-    }
-    if mask == 0 {
-        return refuses(rules::BAD_STEP);
-    }
-    rows::clear(w, 0, layout::WORLD_WIDTH);
-    begin::put_relays(w, mask);
-    begin::put_desks(w, mask);
-    tells(Event::Nothing, 0)
+    start_any(w, mask).into()
 }
 
 // ---- what waits
