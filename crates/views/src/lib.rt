@@ -243,12 +243,12 @@ pub fn heard(own: Sequence, converged: Sequence, q: Sequence) -> Sequence
     ensures { result ≡ row_of (heard_of (views_of own) (views_of converged) (views_of q)) }
 {
     if !lacks(q, own) {
-        return kept(own);
+        kept(own)
+    } else if conflict(q, own) {
+        plus(join(most(own), most(q)), converged)
+    } else {
+        union(q, own)
     }
-    if conflict(q, own) {
-        return plus(join(most(own), most(q)), converged);
-    }
-    union(q, own)
 }
 
 // The views of q that strictly include w.

@@ -14,6 +14,6 @@ returns-then-conflict c =
     ∙ rw (c.join.ensures, c.most.ensures, c.most-then-conflict.ensures)
     (rw (← c.lacks.ensures, c.if-not-lacks.false, ← c.conflict.ensures, c.if-conflict.true))
 
-pub returns : goal.returns
+pub returns-else-conflict : goal.returns-else-conflict
 unfolding heard_of
-returns c = c.union.ensures ∙ rw (← c.lacks.ensures, c.if-not-lacks.false, ← c.conflict.ensures, c.if-conflict.false)
+returns-else-conflict c = c.union.ensures ∙ rw (← c.lacks.ensures, c.if-not-lacks.false, ← c.conflict.ensures, c.if-conflict.false)
