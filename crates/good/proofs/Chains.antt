@@ -1,5 +1,5 @@
--- `all` over the numbers below n, or over a slice's elements and their numbers, tests each of them; what it tests after `take_while` is all that is not taken
--- for good. Assumes nothing.
+-- `all` over the numbers below n, or over a slice's elements and their numbers, tests each of them; after `take_while`, each before the first that stops.
+-- Assumes nothing.
 use mathlib.Core.Path.{◌≡◌, refl, sym, ap, ◌∙◌}
 use Rattle.std.specs.Prelude.{◌||◌}
 use mathlib.Core.Bool.{Bool, true, false, not, or-true}
@@ -16,7 +16,8 @@ use denote.Param.Members.{Mut, Called}
 use Rattle.std.specs.Bool.{MatchBool}
 use Rattle.std.specs.Iterator.{ChecksAll}
 use Rattle.std.specs.Fn.{CalledAt}
-use Rattle.std.specs.Iterator.Adapters.{enumerate_source, enumerate_count, enumerate_steps, take_while_source, take_while_callee, take_while_done, take_while_steps}
+use Rattle.std.specs.Iterator.Adapters.{enumerate_source, enumerate_count, enumerate_steps}
+use Rattle.std.specs.Iterator.Adapters.{take_while_source, take_while_callee, take_while_done, take_while_steps}
 use Rattle.std.specs.List.{range_with_len, enumerate_from, prefix_len, AllWithin, HoldsAt}
 use Rattle.std.specs.Slice.Iter.{iter_rest}
 use Rattle.std.specs.declared.ops.Range.{Range}
@@ -35,7 +36,8 @@ use Rattle.rows.proofs.All.{all_at, all_every, all_fails}
 use Rattle.views.proofs.Truth.{same_truth}
 
 -- t answers of the k-th of ys what it answers of the number k
-module _ {B : Type 0} (d : B) (t : B → Bool) (n : ℕ) (ys : List B) (long : length ys ≡ n) (f : ℕ → Bool) (is : (k : ℕ) → k < n → t (get_or ys k d) ≡ f k) where
+module _ {B : Type 0} (d : B) (t : B → Bool) (n : ℕ) (ys : List B) (long : length ys ≡ n) (f : ℕ → Bool)
+    (is : (k : ℕ) → k < n → t (get_or ys k d) ≡ f k) where
   answers : (r : Bool) → MatchBool r (AllWithin (λ y. t y ≡ true) ys 0 (length ys)) ((k : ℕ) × (k < length ys) × HoldsAt (λ y. t y ≡ false) ys k)
       → r ≡ all n f
   answers true h = sym (all_every n f (λ k p. sym (is k p) ∙ h k d (omega arith) (rw long p)))
@@ -60,7 +62,7 @@ module _ {X : Type 0} (d : X) (xs : List X) (t : ℕ → X → Bool) where
       (cases_from_all u f r (λ p. t p.0 p.1 ≡ true) (λ p. t p.0 p.1 ≡ false) ran (YieldsList-from_enumerate (YieldsList-from_slice xs e) first)
       (λ x q k. let c = calls x true q k in (c.0, sym c.1)) (λ x q k. sym (calls x false q k).1))
 
--- at a number that stops, all later ones do
+-- `all` after `take_while`: from a number that stops on, all later ones stop too
 module _ (n : ℕ) (stop t : ℕ → Bool) (later : (i k : ℕ) → i ≤ k → k < n → stop i ≡ true → stop k ≡ true) where
   abbrev goes : ℕ → Bool
   goes k = not (stop k)
@@ -97,9 +99,11 @@ module _ (n : ℕ) (stop t : ℕ → Bool) (later : (i k : ℕ) → i ≤ k → 
       one e k p true h = rw (after k (leb-true taken k h) p)
       one e k p false h = rw (all_at taken k t e (leb-false taken k h)) (or-true (stop k))
 
-  pub all_until : {F G : Type 0} {g : Mut F (ℕ × Unit {0}) Bool} (h : Mut G (Bor ℕ × Unit {0}) Bool) {f : F} {e : G} {r : Bool} {s u : TakeWhile (Range ℕ) G}
+  pub all_until : {F G : Type 0} {g : Mut F (ℕ × Unit {0}) Bool} (h : Mut G (Bor ℕ × Unit {0}) Bool)
+      {f : F} {e : G} {r : Bool} {s u : TakeWhile (Range ℕ) G}
       → take_while_source s ≡ record { start = 0; end = n } → take_while_callee s ≡ e → take_while_done s ≡ false
-      → ChecksAll (take_while_steps nat_range_steps h) g s f r u → ((x : ℕ) (b : Bool) (q : G) → CalledAt h e x b q → (q ≡ e) × (b ≡ not (stop x)))
+      → ChecksAll (take_while_steps nat_range_steps h) g s f r u
+      → ((x : ℕ) (b : Bool) (q : G) → CalledAt h e x b q → (q ≡ e) × (b ≡ not (stop x)))
       → ((x : ℕ) (b : Bool) (q : F) → Called g f (x, tt) b q → (q ≡ f) × (b ≡ t x)) → r ≡ all n (λ k. stop k || t k)
   unfolding taken
   all_until h {f = f} {r = r} {u = u} from is first ran asks calls =

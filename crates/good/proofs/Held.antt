@@ -118,7 +118,8 @@ module _ (l : List ℕ) (o : ℕ) (b : List ℕ) where
           ∙ ap (λ (t : List ℕ). take o l ++ t) (sym (take-append-drop (length b) (drop o l)) ∙ rw (held_part room e, drop-drop))
 
   -- `==` of the n elements from o on
-  pub part_same : {n : ℕ} → length b ≡ n → o + n ≤ length l → {r : Bool} → r ≡ pointwise nat_eq (take (o + n - o) (drop o l)) b → r ≡ held l o b
+  pub part_same : {n : ℕ} → length b ≡ n → o + n ≤ length l → {r : Bool}
+      → r ≡ pointwise nat_eq (take (o + n - o) (drop o l)) b → r ≡ held l o b
   part_same {n} long room {r} e = go r (told_text (take (o + n - o) (drop o l)) b r e)
     where
       same : o + n - o ≡ length b
@@ -172,7 +173,8 @@ unfolding all_zero
 all_none_zero l o = all_none (λ k. eqb (get_or l (o + k) 0) 0)
 
 -- where all is zero from place i on, it is from each later place on
-pub zero_later : (n : ℕ) (l : List ℕ) (o i k : ℕ) → i ≤ k → all_zero l (o + i * n) ((8 - i) * n) ≡ true → all_zero l (o + k * n) ((8 - k) * n) ≡ true
+pub zero_later : (n : ℕ) (l : List ℕ) (o i k : ℕ) → i ≤ k → all_zero l (o + i * n) ((8 - i) * n) ≡ true
+    → all_zero l (o + k * n) ((8 - k) * n) ≡ true
 unfolding all_zero
 zero_later n l o i k h e =
     all_every ((8 - k) * n) _ (λ j p. rw (at j) (all_at ((8 - i) * n) ((k - i) * n + j) (λ m. eqb (get_or l (o + i * n + m) 0) 0) e (inside j p)))

@@ -45,11 +45,11 @@ use Rattle.good.proofs.Rows.{rows_same}
 -- ---- a relay's tables
 
 module _ (s : ℕ) where
-  no_generators : good_generators s [] ≡ true
+  pub no_generators : good_generators s [] ≡ true
   unfolding good_generators all_hold sets.all distinct
   no_generators = refl
 
-  no_transfers : good_transfers s [] ≡ true
+  pub no_transfers : good_transfers s [] ≡ true
   unfolding good_transfers all_hold sets.all distinct
   no_transfers = refl
 

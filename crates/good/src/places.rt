@@ -166,7 +166,7 @@ fn good_message(m: Message) -> bool
     }
 }
 
-// Its bytes are those of what the message says alone.
+// A message's row. What is written is what its kind says, so that a field that it does not say must be zero.
 impl Row<MESSAGE_WIDTH> for Message {
     ghost row_at = { message_row_at };
 
@@ -195,6 +195,7 @@ impl Row<MESSAGE_WIDTH> for Message {
     ghost means = { message_means };
 }
 
+// A free place is all zero.
 #[tactic(auto, using(crate::proofs::Messages::no_kind_lem, crate::proofs::Messages::above_kinds, crate::proofs::Messages::place_says))]
 fn good_place_row(w: &[u8], at: usize) -> bool
     requires { at + message_width ≤ length w.now }

@@ -1,6 +1,5 @@
 // The eight relays.
 ghost use Rattle.std.specs.Prelude.{◌≡◌, not, [], ◌+◌, ◌≤◌, ◌<◌, eqb, length, ◌&&◌};
-ghost use Rattle.std.proofs.Common.{refl};
 ghost use Rattle.rows.specs.Tests.{all};
 ghost use Rattle.rules.specs.Sets.{member};
 ghost use Rattle.rules.specs.WellFormed.{implies, same_bool, good_relay};
@@ -45,7 +44,7 @@ impl Row<HEAD_WIDTH> for Head {
         image::head_at(w, at)
     }
 
-    #[tactic(auto, unfolding(rules::specs::WellFormed::good_relay, rules::specs::Sets::all_hold, state::specs::Meaning::relay_of, rules::specs::WellFormed::good_generators, rules::specs::WellFormed::good_transfers, rules::specs::Sets::all, rules::specs::WellFormed::distinct))]
+    #[tactic(auto, using(crate::proofs::World::no_generators, crate::proofs::World::no_transfers), unfolding(rules::specs::WellFormed::good_relay, rules::specs::Sets::all_hold, state::specs::Meaning::relay_of))]
     fn is_good(self, s: u8) -> bool {
         parts::good_pair(self.holds)
             && good_active(self.active, self.entered, self.view, s)

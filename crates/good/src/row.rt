@@ -5,14 +5,14 @@ ghost use Rattle.good.specs.Rows.{held};
 
 // A kind of row that is N bytes wide.
 pub(crate) trait Row<const N: usize>: Copy {
-    // What is read from a place on, its test, and its bytes.
+    // What `read`, `is_good` and `put` do: what is read from a place on, its test, and its bytes.
     ghost row_at: { List ℕ → ℕ → Self };
 
     ghost tested: { ℕ → Self → Bool };
 
     ghost bytes: { Self → List ℕ };
 
-    // What a row is good by.
+    // Whether the row from a place on is good, as the document has it.
     ghost good: { List ℕ → ℕ → ℕ → Bool };
 
     fn read(w: &[u8], at: usize) -> Self
@@ -25,13 +25,15 @@ pub(crate) trait Row<const N: usize>: Copy {
     fn put(&self, row: &mut [u8])
         ensures { row.new ≡ placed row.old 0 (bytes self.now) };
 
+    // What each `impl` must prove: the width, and that the row is good exactly when what is read passes and its bytes are the row's.
     ghost wide: { (x : Self) → length (bytes x) ≡ N };
 
     ghost means: { (l : List ℕ) (s o : ℕ) → good l s o ≡ (tested s (row_at l o) && held l o (bytes (row_at l o))) };
 }
 
-// A kind of row that stands in a table, each under a name of its own.
+// A kind of row that stands in a table under a name: the row's first bytes, a view or a pair of views.
 pub(crate) trait Named<const N: usize>: Row<N> {
+    // Whether the rows from two places on have different names.
     ghost other: { List ℕ → ℕ → ℕ → Bool };
 
     fn same_name(w: &[u8], a: usize, b: usize) -> bool

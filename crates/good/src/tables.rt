@@ -1,10 +1,10 @@
-// A table of eight rows of a relay's: its generators, or its transfers.
+// A table of eight rows of a relay's: its generators, or its transfers. What a closure's call asks for is written at the closure: in generic code it is not inferred.
 ghost use Rattle.std.specs.Prelude.{◌≡◌, not, ◌-◌, ◌+◌, ◌*◌, ◌≤◌, ◌<◌, length};
 ghost use Rattle.rows.specs.Tests.{all, all_zero};
 ghost use Rattle.rules.specs.Sets.{seat_count};
 ghost use Rattle.good.specs.Rows.{differs, place_filled, filled_good};
 
-use super::row::Named;
+use super::row::{Named, good_row};
 
 // The rows before place i name others than the one there.
 #[tactic(auto, using(rows::proofs::Laws::run_inside))]
@@ -26,7 +26,7 @@ fn good_place<T: Named<N>, const N: usize>(w: &[u8], s: u8, at: usize, i: usize)
     requires { (at + seat_count * N ≤ length w.now) × (i < seat_count) }
     ensures { result ≡ place_filled T.other T.good N w.now s at i }
 {
-    other_names::<T, N>(w, at, i) && super::row::good_row::<T, N>(w, s, at + i * N)
+    other_names::<T, N>(w, at, i) && good_row::<T, N>(w, s, at + i * N)
 }
 
 // Each place is filled and good, or all is zero from it on.

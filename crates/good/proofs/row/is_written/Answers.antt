@@ -9,4 +9,5 @@ use Rattle.good.proofs.row.is_written.Goals as goal
 pub returns : goal.returns
 returns g c =
     let row : c.put.new.row ≡ g.T.Row.bytes c.args.x.now = written _ _ (g.met.T.Row.wide c.args.x.now ∙ search rules) c.put.ensures in
-    part_same c.args.w.now c.args.at c.put.new.row (ap length row ∙ g.met.T.Row.wide c.args.x.now) c.requires c.eq.ensures ∙ ap (held c.args.w.now c.args.at) row
+    part_same c.args.w.now c.args.at c.put.new.row (ap length row ∙ g.met.T.Row.wide c.args.x.now) c.requires c.eq.ensures
+    ∙ ap (held c.args.w.now c.args.at) row

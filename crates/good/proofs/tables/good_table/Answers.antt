@@ -13,5 +13,6 @@ unfolding filled_good
 returns g c =
     all_until seat_count (λ i. all_zero c.args.w.now (c.args.at + i * g.row.N) ((seat_count - i) * g.row.N))
     (place_filled g.T.Named.other g.T.Row.good g.row.N c.args.w.now c.args.s c.args.at)
-    (λ i k h p e. zero_later g.row.N c.args.w.now c.args.at i k h e) _ c.take_while.ensures.source c.take_while.ensures.closure c.take_while.ensures.done c.all.ensures.ran
+    (λ i k h p e. zero_later g.row.N c.args.w.now c.args.at i k h e) _ c.take_while.ensures.source
+    c.take_while.ensures.closure c.take_while.ensures.done c.all.ensures.ran
     (λ x b q k. search rules) (λ x b q k. search rules)
