@@ -45,11 +45,11 @@ use Rattle.good.proofs.Rows.{rows_same}
 -- ---- a relay's tables
 
 module _ (s : ℕ) where
-  pub no_generators : good_generators s [] ≡ true
+  no_generators : good_generators s [] ≡ true
   unfolding good_generators all_hold sets.all distinct
   no_generators = refl
 
-  pub no_transfers : good_transfers s [] ≡ true
+  no_transfers : good_transfers s [] ≡ true
   unfolding good_transfers all_hold sets.all distinct
   no_transfers = refl
 
@@ -76,6 +76,13 @@ hold_pair [] g t = ap (λ (x : Bool). g && x) (and-true t)
 hold_pair (b ∷ bs) g t = rw (hold_pair bs g t) (sym (and_assoc b (all_hold (bs ++ (true ∷ true ∷ []))) (g && t)))
 
 module _ (s : ℕ) where
+  -- what is tested of a relay's head
+  pub head_tested : (h : Head) → good_relay s (relay_of h [] [])
+      ≡ all_hold (is_view h.view ∷ is_view h.known ∷ is_view h.pending ∷ is_pair h.holds ∷ implies h.active (h.entered && member h.view s)
+      ∷ same_bool h.entered (not (eqb h.view 0)) ∷ true ∷ true ∷ [])
+  unfolding good_relay relay_of
+  head_tested h = rw (no_generators s, no_transfers s) refl
+
   -- a relay is good when its head is, and its tables are
   relay_good_lem : (h : Head) (gs : List Generator) (ts : List Transfer)
       → good_relay s (relay_of h gs ts) ≡ good_relay s (relay_of h [] []) && (good_generators s gs && good_transfers s ts)

@@ -44,7 +44,7 @@ impl Row<HEAD_WIDTH> for Head {
         image::head_at(w, at)
     }
 
-    #[tactic(auto, using(crate::proofs::World::no_generators, crate::proofs::World::no_transfers), unfolding(rules::specs::WellFormed::good_relay, rules::specs::Sets::all_hold, state::specs::Meaning::relay_of))]
+    #[tactic(auto, using(crate::proofs::World::head_tested), unfolding(rules::specs::Sets::all_hold))]
     fn is_good(self, s: u8) -> bool {
         parts::good_pair(self.holds)
             && good_active(self.active, self.entered, self.view, s)
