@@ -1,5 +1,5 @@
 // The eight relays.
-ghost use Rattle.std.specs.Prelude.{◌≡◌, not, [], ◌+◌, ◌≤◌, ◌<◌, eqb, length, ◌&&◌};
+ghost use Rattle.std.specs.Prelude.{◌≡◌, not, [], ◌<◌, eqb, length, ◌&&◌};
 ghost use Rattle.rows.specs.Tests.{all};
 ghost use Rattle.rules.specs.Sets.{member};
 ghost use Rattle.rules.specs.WellFormed.{implies, same_bool, good_relay};
