@@ -42,6 +42,7 @@ pub fn put_sequence(s: &mut [u8], at: usize, q: Sequence)
         rows::clear(s, at, layout::SEQUENCE_WIDTH);
         return;
     }
+    // By an index: past the length a view is zero, which `view_at` says and the row's array need not hold.
     for i in 0..rules::VIEWS {
         let v = views::view_at(q, i);
         rows::put_u16(s, at + layout::U16_WIDTH * i, v);
