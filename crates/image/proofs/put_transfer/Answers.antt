@@ -40,4 +40,6 @@ overflow_add-at-2 c =
     omega arith
 
 pub returns : goal.returns
-returns c = around _ _ _ _ _ c.put_fields.ensures c.put_sequence.ensures c.put_fields-2.ensures (leb-true _ _ (sym c.has_room.ensures ∙ c.if-not-has_room.false)) ∙ ap (placed _ _) (row_is c.args.t)
+returns c =
+    around _ _ _ _ _ c.put_fields.ensures c.put_sequence.ensures c.put_fields-2.ensures (leb-true _ _ (sym c.has_room.ensures ∙ c.if-not-has_room.false))
+    ∙ ap (placed _ _) (row_is c.args.t)

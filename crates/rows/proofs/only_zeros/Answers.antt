@@ -98,7 +98,9 @@ fails q e = rw e
 pub returns-then-all : goal.returns-then-all
 returns-then-all c =
     let first = all_from_yields_List all_nil _ _ _ c.all.ensures.ran (YieldsList-from_slice _ c.iter.ensures.rest) (λ x b q k. search (rules, tests)) in
-    let rest = all_from_yields_List is_nil _ _ _ c.all-then-all.ensures.ran (YieldsList-from_slice _ c.iter-then-all.ensures.rest) (λ x b q k. search (rules, tests)) in
+    let rest =
+    all_from_yields_List is_nil _ _ _ c.all-then-all.ensures.ran (YieldsList-from_slice _ c.iter-then-all.ensures.rest)
+    (λ x b q k. search (rules, tests)) in
     rest ∙ sym (whole _ _ _ c.as_chunks.ensures.front c.as_chunks.ensures.back ∙ passes (sym first ∙ c.if-all.true))
 
 pub returns-else-all : goal.returns-else-all
