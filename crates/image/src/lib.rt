@@ -210,13 +210,7 @@ pub fn put_transfer(s: &mut [u8], at: usize, t: Transfer)
 fn phase_number(p: Phase) -> u8
     ensures { result ≡ phase_number p }
 {
-    match p {
-        Phase::Idle => 0,
-        Phase::Read1 => 1,
-        Phase::Read2 => 2,
-        Phase::Write1 => 3,
-        Phase::Write2 => 4,
-    }
+    p as u8
 }
 
 fn phase_of(n: u8) -> Phase
