@@ -1,5 +1,7 @@
 -- What the builders' bodies and sendings mean: a body that is made of a rule's words says them. Assumes nothing.
+use Rattle.std.specs.Prelude.{if◌then◌else◌}
 use mathlib.Core.Path.{◌≡◌, refl, sym, ap, ◌∙◌}
+use mathlib.Core.Bool.{Bool, true, false}
 use mathlib.Core.List.{[]}
 use Prim.Native.Nat.{ℕ}
 use Rattle.views.specs.declared.Sequence.{Sequence}
@@ -15,7 +17,7 @@ use Rattle.state.specs.declared.Body.{Body}
 use Rattle.state.specs.declared.Sending.{Sending}
 use Rattle.state.specs.Meaning.{row_of_body, body_of, sending_of}
 use Rattle.state.specs.Plans.{no_sending}
-use Rattle.messages.specs.Made.{said_by, made_with, send_to, to_nobody}
+use Rattle.messages.specs.Made.{said_by, made_with, made, send_to, to_nobody}
 
 -- the row holds the sequence that is said
 abbrev pub Says : Sequence → rules.Body → Type 0
@@ -32,6 +34,14 @@ module _ {r : Body} (q : Sequence) (x : rules.Body) (e : r ≡ made_with q x) (f
   pub made_says : body_of r ≡ x
   unfolding body_of
   made_says = ap body_in made_row ∙ (row_of_lem 0 0 x).says
+
+-- the same as an equation, of a body that says no sequence
+pub made_is : (x : rules.Body) → (body_row 0 0 x).sequence ≡ [] → body_of (made x) ≡ x
+made_is x e = made_says (row_of []) x refl (go _ ∙ none ∙ sym e)
+  where
+    go : (b : Bool) → views_of (if b then row_of [] else row_of []) ≡ views_of (row_of [])
+    go true = refl
+    go false = refl
 
 -- the body that any row says, it says with its own sequence
 pub says_own : (b : Body) → Says b.sequence (body_of b)

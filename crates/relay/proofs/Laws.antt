@@ -103,6 +103,14 @@ pub sends_says : {p : Plan Part} (next : Part) (s : code-sending.Sending) {n : �
 unfolding plan_of
 sends_says next s h e f = one_says part_of no_relay next s h e f
 
+-- the same as equations, which a tactic applies from left to right
+pub quietly_is : (next : Part) → plan_of (Ok (plan_of_all next [] Nothing)) ≡ planned no_relay (quietly (part_of next))
+quietly_is next = quietly_says next refl
+
+pub sends_is : (next : Part) (s : code-sending.Sending) → plan_of (Ok (plan_of_all next (s ∷ []) Nothing)) ≡ planned no_relay (sends (part_of next) (sending_of s ∷ []))
+unfolding sending_of
+sends_is next s = sends_says next s refl refl refl
+
 -- ---- an install: a plan is no refusal, so what is sent first goes before what the rule sends
 
 number_pos : (x : Refusal) → 0 < number x

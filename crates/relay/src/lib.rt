@@ -1,8 +1,9 @@
 // Document 01, "Delivery at a relay", and JOIN, LEAVE, TIMER: what a relay answers to each thing that is put to it.
-#![tactic(auto, unfolding(state::specs::Meaning::part_of, state::specs::Meaning::relay_of, state::specs::Plans::plan_of, state::specs::Plans::planned))]
+#![tactic(auto, using(crate::proofs::Laws::quietly_is, crate::proofs::Laws::sends_is, messages::proofs::Made::made_is), unfolding(state::specs::Meaning::part_of, state::specs::Meaning::relay_of, state::specs::Meaning::transfer_of, state::specs::Meaning::sending_of, state::specs::Meaning::body_of, state::specs::Plans::plan_of, state::specs::Plans::planned, rules::specs::Relays::join_asked, rules::specs::Relays::leave_asked, rules::specs::Relays::timer_rang, rules::specs::Relays::request_heard, rules::specs::Relays::gathers, rules::specs::Relays::takes_install, rules::specs::Relays::install_heard, rules::specs::Relays::state_heard, rules::specs::Relays::get_heard, rules::specs::Relays::put_heard, rules::specs::Relays::relay_hears, rules::specs::State::with_pending, rules::specs::State::with_holds, crate::specs::Fitting::join_answer, crate::specs::Fitting::timer_answer, crate::specs::Fitting::hears_answer, crate::specs::Fitting::hears_in_row, crate::specs::Fitting::fitting, layout::specs::Image::body_in))]
 
 ghost use Rattle.std.specs.Prelude.{◌≡◌, true, ◌&&◌, [], ◌∷◌, ◌<◌, ltb};
 ghost use Rattle.views.specs.Row.{views_of};
+ghost use Rattle.rules.specs.Sets as sets;
 ghost use Rattle.rules.specs.State.{no_relay, with_transfers};
 ghost use Rattle.rules.specs.Generators.{generator_for};
 ghost use Rattle.rules.specs.Generators as generators;
@@ -24,6 +25,22 @@ mod transfers; // transfers, and the head from view to view
 
 // ---- steps
 
+// The update "relay s joined".
+fn joins(s: u8) -> u16
+    requires { s < 8 }
+    ensures { result ≡ sets.joins s }
+{
+    1 << s
+}
+
+// The update "relay s left".
+fn leaves(s: u8) -> u16
+    requires { s < 8 }
+    ensures { result ≡ sets.leaves s }
+{
+    1 << (rules::RELAYS + s as usize)
+}
+
 // "JOIN is NOT NOW if the relay has entered any view or its join is in its known view; else it sends request(+s, known view) to that view's members."
 pub fn join_asked(s: u8, p: Part) -> Result<Plan<Part>, Refusal>
     ensures { plan_of result ≡ planned no_relay (join_answer s (part_of p)) }
@@ -32,7 +49,7 @@ pub fn join_asked(s: u8, p: Part) -> Result<Plan<Part>, Refusal>
         return Err(Refusal::BadStep);
     }
     let known = p.head.known;
-    let u = 1 << s;
+    let u = joins(s);
     if p.head.entered || views::within(u, known) {
         return Err(Refusal::NotNow);
     }
@@ -47,8 +64,7 @@ pub fn leave_asked(s: u8, p: Part) -> Result<Plan<Part>, Refusal>
     if !views::is_member(v, s) {
         return Err(Refusal::NotNow);
     }
-    let u = 1 << (rules::RELAYS + s as usize);
-    Ok(messages::sends(p, messages::to_members(v, messages::request(u, v))))
+    Ok(messages::sends(p, messages::to_members(v, messages::request(leaves(s), v))))
 }
 
 // "TIMER is NOT NOW unless active and its view lacks a pending update; it proposes the sequence of one view, its own joined with the pending updates."

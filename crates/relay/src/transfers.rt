@@ -1,4 +1,6 @@
 // Transfers, and a part's head as it goes from view to view.
+#![tactic(auto, unfolding(state::specs::Meaning::part_of, state::specs::Meaning::relay_of, state::specs::Meaning::transfer_of, rules::specs::Relays::keeps, rules::specs::Relays::learns, rules::specs::State::with_known, rules::specs::State::with_active, rules::specs::State::with_transfers))]
+
 ghost use Rattle.std.specs.Prelude.{◌≡◌, [], ◌∷◌, if◌then◌else◌};
 ghost use Rattle.views.specs.Row.{views_of};
 ghost use Rattle.rules.specs.Sets.{inside};

@@ -4,23 +4,14 @@ use mathlib.Core.Bool.{◌&&◌}
 use Rattle.rules.specs.Sets.{member, inside}
 use Rattle.rules.specs.Relays.{install_heard}
 use Rattle.state.specs.Meaning.{relay_of, part_of}
-use Rattle.state.specs.Plans.{plan_of, planned}
 use Rattle.messages.proofs.Made.{none, made_says, sent_says}
-use Rattle.relay.proofs.Laws.{first_answer, sent-none, stopped_shows}
+use Rattle.relay.proofs.Laws.{first_answer, stopped_shows}
 use Rattle.relay.proofs.install_heard.Goals as goal
-
-pub returns-then-early : goal.returns-then-early
-unfolding plan_of planned install_heard part_of relay_of
-returns-then-early c = rw (← c.if-not-shows.ensures, ← c.if-early.ensures)
 
 pub takes_install-later-requires : goal.takes_install-later-requires
 takes_install-later-requires c =
     rw c.stopped.ensures (stopped_shows (member c.args.o c.args.s && inside (part_of c.args.p).view c.args.w) (part_of c.args.p) c.args.o c.args.w
     (sym c.if-not-shows.ensures))
-
-pub returns-then-not-is_member : goal.returns-then-not-is_member
-unfolding install_heard
-returns-then-not-is_member c = c.takes_install-later.ensures ∙ rw (c.stopped.ensures, ← c.if-not-shows.ensures, ← c.if-early.ensures, ← c.if-not-is_member.ensures, sent-none _)
 
 pub returns : goal.returns
 unfolding install_heard part_of relay_of
