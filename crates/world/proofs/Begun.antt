@@ -99,36 +99,6 @@ module _ (mask : ℕ) where
       nothing : record { relays = replicate 8 no_relay; desks = replicate 4 no_desk; places = replicate 256 free } ≡ begun mask 0 0
       nothing = unfold begun relays_to desks_to in refl
 
--- so far in a loop
-pub record RelaysTo (mask : ℕ) (s₀ s : List ℕ) (n : ℕ) : Type 0 where
-  pub within : n ≤ 8
-  pub long : length s ≡ length s₀
-  pub is : s₀ ≡ image (begun mask 0 0) → s ≡ image (begun mask n 0)
-
-pub record DesksTo (mask : ℕ) (s₀ s : List ℕ) (n : ℕ) : Type 0 where
-  pub within : n ≤ 4
-  pub long : length s ≡ length s₀
-  pub is : s₀ ≡ image (begun mask 8 0) → s ≡ image (begun mask 8 n)
-
-module _ {mask : ℕ} {s₀ : List ℕ} where
-  pub relays-none : RelaysTo mask s₀ s₀ 0
-  relays-none = record { within = omega arith; long = refl; is = λ e. e }
-
-  pub relays_more : {s : List ℕ} {n : ℕ} (t : List ℕ) → RelaysTo mask s₀ s n → n < 8 → length t ≡ length s → t ≡ placed s (relay_begin n) (head_bytes (start_relay mask n)) → RelaysTo mask s₀ t (n + 1)
-  relays_more {s} {n} t r h l e = record { within = omega arith; long = l ∙ r.long; is = λ q. e ∙ rw (r.is q) (relay_written mask n 0 h) }
-
-  pub relays-all : {s : List ℕ} {n : ℕ} → RelaysTo mask s₀ s n → 8 ≤ n → s₀ ≡ image (begun mask 0 0) → s ≡ image (begun mask 8 0)
-  relays-all {s} {n} r h e = let z : n ≡ 8 = omega (arith, r.within) in rw z at (r.is e)
-
-  pub desks-none : DesksTo mask s₀ s₀ 0
-  desks-none = record { within = omega arith; long = refl; is = λ e. e }
-
-  pub desks_more : {s : List ℕ} {n : ℕ} (t : List ℕ) → DesksTo mask s₀ s n → n < 4 → length t ≡ length s → t ≡ placed s (desk_begin n) (desk_bytes (start_desk mask)) → DesksTo mask s₀ t (n + 1)
-  desks_more {s} {n} t r h l e = record { within = omega arith; long = l ∙ r.long; is = λ q. e ∙ rw (r.is q) (desk-written mask 8 n h) }
-
-  pub desks-all : {s : List ℕ} {n : ℕ} → DesksTo mask s₀ s n → 4 ≤ n → s₀ ≡ image (begun mask 8 0) → s ≡ image (begun mask 8 4)
-  desks-all {s} {n} r h e = let z : n ≡ 4 = omega (arith, r.within) in rw z at (r.is e)
-
 -- ---- "CRASH only ends alive"
 
 crash_head : (r : Relay) → splice (head_bytes r) 0 (0 ∷ []) ≡ head_bytes (crashed_relay r)

@@ -257,25 +257,20 @@ out_counted from (x ∷ xs) =
 
 -- a buffer s₀ into which these messages are placed
 pub record Placed (s₀ : List ℕ) (ms : List Message) (s : List ℕ) : Type 0 where
-  pub long : length s ≡ length s₀
   pub is : (w : World) → length w.places ≡ 256 → s₀ ≡ image w → s ≡ image (with_places w (place_all ms w.places))
 
 pub placed-none : {s : List ℕ} {ms : List Message} → ms ≡ [] → Placed s ms s
 unfolding place_all
-placed-none z = record { long = refl; is = λ w l e. e ∙ rw z }
+placed-none z = record { is = λ w l e. e ∙ rw z }
 
-pub placed_more : {s₀ s : List ℕ} {ms : List Message} → Placed s₀ ms s
-    → (ns : List Message) {all : List Message} → all ≡ ms ++ ns → (t : List ℕ) → length t ≡ length s
+pub placed_more : {s₀ s : List ℕ} {ms : List Message} → Placed s₀ ms s → (ns : List Message) {all : List Message} → all ≡ ms ++ ns → (t : List ℕ)
     → ((w : World) → length w.places ≡ 256 → s ≡ image w → t ≡ image (with_places w (place_all ns w.places))) → Placed s₀ all t
-placed_more {s₀} {s} {ms} h ns z t k f =
-    record {
-      long = k ∙ h.long;
-      is = λ w l q. f (with_places w (place_all ms w.places)) (places-length ms w.places ∙ l) (h.is w l q) ∙ rw (z, places-append ms ns w.places);
-    }
+placed_more {ms = ms} h ns z t f =
+    record { is = λ w l q. f (with_places w (place_all ms w.places)) (places-length ms w.places ∙ l) (h.is w l q) ∙ rw (z, places-append ms ns w.places) }
 
 -- one more
-pub placed_one : {s₀ s : List ℕ} (from : ℕ) (b : Body) (ns : List ℕ) → Placed s₀ (map (message from b) ns) s → (n : ℕ) (t : List ℕ) → length t ≡ length s
+pub placed_one : {s₀ s : List ℕ} (from : ℕ) (b : Body) (ns : List ℕ) → Placed s₀ (map (message from b) ns) s → (n : ℕ) (t : List ℕ)
     → ((w : World) → length w.places ≡ 256 → s ≡ image w → t ≡ image (with_places w (place (message from b n) w.places)))
     → Placed s₀ (map (message from b) (ns ++ (n ∷ []))) t
 unfolding place_all
-placed_one from b ns h n t k f = placed_more h (message from b n ∷ []) (map-append (message from b) ns (n ∷ [])) t k f
+placed_one from b ns h n t f = placed_more h (message from b n ∷ []) (map-append (message from b) ns (n ∷ [])) t f

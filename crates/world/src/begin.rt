@@ -30,11 +30,15 @@ pub(crate) fn put_relays(w: &mut [u8], mask: u8)
     ensures { w.old ≡ image (begun mask 0 0) → w.new ≡ image (begun mask 8 0) }
 {
     for s in 0..rules::RELAYS as u8 {
-        let head = start_head(mask, s);
-        image::put_head(w, s as usize * layout::RELAY_WIDTH, head);
+        image::put_head(
+            w,
+            s as usize * layout::RELAY_WIDTH,
+            start_head(mask, s),
+        );
     }
 }
 
+#[tactic(auto, unfolding(rules::specs::State::start_desk))]
 fn start_desk(mask: u8) -> Desk
     ensures { result ≡ start_desk mask }
 {

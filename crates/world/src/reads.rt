@@ -14,6 +14,7 @@ use state::{Generator, Part, Sendings, Transfer};
 
 // ---- places
 
+#[tactic(auto, unfolding(crate::specs::Commits::free_row))]
 pub(crate) fn is_free(w: &[u8], p: usize) -> bool
     requires { p < 256 }
     ensures { result ≡ free_row w.now p }

@@ -19,14 +19,13 @@ use state::{Body, Message, Part, Sending, Sendings, Transfer};
 pub(crate) fn free(w: &mut [u8], p: Option<u8>)
     ensures { (W : World) → length W.places ≡ 256 → w.old ≡ image W → w.new ≡ image (freed_at W (unwrap_or p 256)) }
 {
-    let Some(p) = p else {
-        return;
-    };
-    rows::clear(
-        w,
-        layout::WORLD_PLACES + p as usize * layout::MESSAGE_WIDTH,
-        layout::MESSAGE_WIDTH,
-    );
+    if let Some(p) = p {
+        rows::clear(
+            w,
+            layout::WORLD_PLACES + p as usize * layout::MESSAGE_WIDTH,
+            layout::MESSAGE_WIDTH,
+        );
+    }
 }
 
 // "A new message takes the lowest free place", and none below `low` is free; none below the result is free afterwards.
@@ -71,6 +70,8 @@ pub(crate) fn send_all(w: &mut [u8], from: u8, x: Sendings)
 
 // ---- transfers
 
+// A row of zeros.
+#[tactic(auto, unfolding(state::specs::Meaning::transfer_of, views::specs::Row::views_of, views::specs::Row::row_of, rules::specs::Relays::fresh_transfer))]
 fn blank() -> Transfer
     ensures { transfer_of result ≡ fresh_transfer 0 0 }
 {

@@ -1,10 +1,8 @@
--- `world::begin::put_desks` meets its contract. Assumes nothing.
-use Prim.Native.Nat.{◌-◌}
-use Rattle.world.proofs.Begun.{DesksTo}
+-- `world::begin::put_desks` meets its contract: the desks before n are there. Assumes nothing.
+use mathlib.Core.Path.{◌≡◌}
+use Rattle.layout.specs.Image.{image}
+use Rattle.world.specs.Commits.{begun}
 use Rattle.world.proofs.begin.put_desks.Given as goal
 
 abbrev pub invariant-loop-n : goal.invariant-loop-n
-invariant-loop-n l = DesksTo l.mask l.initial.w l.w l.n
-
-abbrev pub decreases-loop-n : goal.decreases-loop-n
-decreases-loop-n l = 4 - l.n
+invariant-loop-n l = l.initial.w ≡ image (begun l.mask 8 0) → l.w ≡ image (begun l.mask 8 l.n)

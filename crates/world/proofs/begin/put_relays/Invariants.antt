@@ -1,10 +1,8 @@
--- `world::begin::put_relays` meets its contract. Assumes nothing.
-use Prim.Native.Nat.{◌-◌}
-use Rattle.world.proofs.Begun.{RelaysTo}
+-- `world::begin::put_relays` meets its contract: the relays before s are there. Assumes nothing.
+use mathlib.Core.Path.{◌≡◌}
+use Rattle.layout.specs.Image.{image}
+use Rattle.world.specs.Commits.{begun}
 use Rattle.world.proofs.begin.put_relays.Given as goal
 
 abbrev pub invariant-loop-s : goal.invariant-loop-s
-invariant-loop-s l = RelaysTo l.mask l.initial.w l.w l.s
-
-abbrev pub decreases-loop-s : goal.decreases-loop-s
-decreases-loop-s l = 8 - l.s
+invariant-loop-s l = l.initial.w ≡ image (begun l.mask 0 0) → l.w ≡ image (begun l.mask l.s 0)

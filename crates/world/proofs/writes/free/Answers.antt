@@ -11,8 +11,8 @@ pub returns-in_default : goal.returns-in_default
 unfolding freed_at
 returns-in_default c W long e = e ∙ rw c.in_default.is
 
-pub returns : goal.returns
+pub returns-in-Some : goal.returns-in-Some
 unfolding freed_at
-returns c W long e =
+returns-in-Some c W long e =
     let small : c.in-Some.p < 256 = omega arith in
     c.clear.ensures ∙ rw (c.in-Some.is, e, lt-ltb c.in-Some.p 256 small) (put-free W long c.in-Some.p small)

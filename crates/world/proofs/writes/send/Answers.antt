@@ -19,8 +19,7 @@ place-low-requires c = c.loop-to.invariant.1
 
 pub loop-to-preserved : goal.loop-to-preserved
 loop-to-preserved c = (
-  placed_one c.args.from (body_of c.args.x.body) c.loop-to.yielded c.loop-to.invariant.0 c.in-Some.to c.place-low.new.w c.place-low.auto.w
-      c.place-low.ensures.bytes,
+  placed_one c.args.from (body_of c.args.x.body) c.loop-to.yielded c.loop-to.invariant.0 c.in-Some.to c.place-low.new.w c.place-low.ensures.bytes,
   c.place-low.ensures.next,
 )
 

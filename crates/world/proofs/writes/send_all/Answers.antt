@@ -14,7 +14,7 @@ loop-s-init c = placed-none (out_none _ _)
 pub loop-s-preserved : goal.loop-s-preserved
 loop-s-preserved c =
     let full : length c.args.x.of ≡ most = search rules in
-    placed_more c.loop-s.invariant _ (out_more c.args.from c.args.x.of c.loop-s.s-index _ (omega (arith, full))) _ c.send.auto.w c.send.ensures
+    placed_more c.loop-s.invariant _ (out_more c.args.from c.args.x.of c.loop-s.s-index _ (omega (arith, full))) _ c.send.ensures
 
 pub returns : goal.returns
 unfolding sendings_of
