@@ -14,9 +14,6 @@ use Rattle.world.proofs.writes.send.Goals as goal
 pub loop-to-init : goal.loop-to-init
 loop-to-init c = (placed-none refl, taken_none)
 
-pub place-low-requires : goal.place-low-requires
-place-low-requires c = c.loop-to.invariant.1
-
 pub loop-to-preserved : goal.loop-to-preserved
 loop-to-preserved c = (
   placed_one c.args.from (body_of c.args.x.body) c.loop-to.yielded c.loop-to.invariant.0 c.in-Some.to c.place-low.new.w c.place-low.ensures.bytes,
