@@ -35,7 +35,8 @@ use Rattle.locality.proofs.Seat.{present}
 use Rattle.locality.proofs.Part.{seat_of_view, seat_of_move, generator_there, generator_absent, transfer_there, transfer_absent}
 use Rattle.world.proofs.Lists.{seat_found}
 
--- ---- the seat i that a search among the eight rows of xs has found: what a part shows of xs, by the row that is read there, and its number, 0 where it is not filled
+-- ---- the seat i that a search among the eight rows of xs has found: what a part shows of xs, by the row x that is read there; its number is 0 where
+-- it is not filled
 
 pub record AtSeat {A : Type 0} (number : A → ℕ) (xs : List A) (d : A) (part : List A) (i : ℕ) (x : A) : Type 0 where
   few : length xs ≤ 8

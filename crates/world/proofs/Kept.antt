@@ -51,7 +51,8 @@ module _ (l : List ℕ) (at v : ℕ) where
       )
 
   -- the next of them has the next number
-  pub numbered : (n i : ℕ) (t : state.Transfer) → (n < length (enumerate_from 0 found)) × ((i, t) ≡ get_or (enumerate_from 0 found) n (i, t)) → (i ≡ n) × (n < 8)
+  pub numbered : (n i : ℕ) (t : state.Transfer) → (n < length (enumerate_from 0 found)) × ((i, t) ≡ get_or (enumerate_from 0 found) n (i, t))
+      → (i ≡ n) × (n < 8)
   numbered n i t h =
       let short : n < length found = omega (arith, h.0, length-enumerate_from 0 found) in
       let is : ◌≡◌ {A = ℕ × state.Transfer} (i, t) (0 + n, get_or found n t) = h.1 ∙ get_or-enumerate_from 0 found n (i, t) short in
@@ -80,22 +81,24 @@ filled_none t e =
       same = λ k h. ap (λ (xs : List state.Transfer). get_or xs k none) (map-replicate transfer_of 8 t ∙ ap (replicate 8) e) ∙ replicate_at 8 k none;
     }
 
+-- u is put where ys ends, and xs begins as ys does
+put_last : (xs ys : List state.Transfer) (u : state.Transfer) (i : ℕ) → i < length xs → length ys ≡ i → (k : ℕ) → get_or xs k none ≡ get_or ys k none
+    → get_or (set xs i u) k none ≡ get_or (ys ++ (u ∷ [])) k none
+put_last xs ys u i h e k same = each (ℕ_discrete k i)
+  where
+    each : Dec (k ≡ i) → get_or (set xs i u) k none ≡ get_or (ys ++ (u ∷ [])) k none
+    each (yes z) = rw z (get_or-set_same xs i u none h ∙ sym (rw e at (changed_add {d = none} ys u).here))
+    each (no z) = get_or-set_other xs i k u none z ∙ same ∙ sym ((changed_add {d = none} ys u).others k (λ q. z (q ∙ e)))
+
 pub filled_more : {kept : List Transfer} {items : List (ℕ × Transfer)} → Filled kept items → (i : ℕ) (t : Transfer) → i ≡ length items → i < 8
     → Filled (set kept i t) (items ++ ((i, t) ∷ []))
 filled_more {kept} {items} f i t e h =
-    record { long = length-set kept i t ∙ f.long; same = λ k p. rw (map-set transfer_of kept i t, map-append second items ((i, t) ∷ [])) (each k p (ℕ_discrete k i)) }
-  where
-    long : length (map transfer_of kept) ≡ 8
-    long = length-map kept transfer_of ∙ f.long
-
-    count : length (map second items) ≡ i
-    count = length-map items second ∙ sym e
-
-    each : (k : ℕ) → k < 8 → Dec (k ≡ i) → get_or (set (map transfer_of kept) i (transfer_of t)) k none ≡ get_or (map second items ++ (transfer_of t ∷ [])) k none
-    each k p (yes z) =
-        rw z (get_or-set_same (map transfer_of kept) i (transfer_of t) none (omega (arith, long)) ∙ sym (rw count at (changed_add {d = none} (map second items) (transfer_of t)).here))
-    each k p (no z) =
-        get_or-set_other (map transfer_of kept) i k (transfer_of t) none z ∙ f.same k p ∙ sym ((changed_add {d = none} (map second items) (transfer_of t)).others k (λ q. z (q ∙ count)))
+    let room : i < length (map transfer_of kept) = omega (arith, length-map kept transfer_of, f.long) in
+    let count : length (map second items) ≡ i = length-map items second ∙ sym e in
+    record {
+      long = length-set kept i t ∙ f.long;
+      same = λ k p. rw (map-set transfer_of kept i t, map-append second items ((i, t) ∷ [])) (put_last _ _ (transfer_of t) i room count k (f.same k p));
+    }
 
 seconds : (n : ℕ) (xs : List state.Transfer) → map (λ (p : ℕ × state.Transfer). p.1) (enumerate_from n xs) ≡ xs
 seconds n [] = refl
@@ -106,7 +109,8 @@ map_twice [] = refl
 map_twice (x ∷ items) = ap (λ (l : List state.Transfer). second x ∷ l) (map_twice items)
 
 -- once all are read
-pub filled_all : (l : List ℕ) (at v : ℕ) {kept : List Transfer} {items : List (ℕ × Transfer)} → Filled kept items → map meant items ≡ enumerate_from 0 (found l at v)
+pub filled_all : (l : List ℕ) (at v : ℕ) {kept : List Transfer} {items : List (ℕ × Transfer)} → Filled kept items
+    → map meant items ≡ enumerate_from 0 (found l at v)
     → (k : ℕ) → k < 8 → get_or (map transfer_of kept) k (fresh_transfer 0 0) ≡ get_or (kept_rows l at v 8) k (fresh_transfer 0 0)
 filled_all l at v {kept} {items} f e k h =
     f.same k h

@@ -1,5 +1,5 @@
--- Lists, as the searches, counts and loops of this crate ask for them: the first that passes, the part that passes of a list that grows, and one place written with what it holds.
--- Assumes nothing.
+-- Lists, as the searches, counts and loops of this crate ask for them: the first that passes, the part that passes of a list that grows, and one place
+-- written with what it holds. Assumes nothing.
 use Rattle.std.specs.Prelude.{if◌then◌else◌, Option, None, Some, is_some, MatchOption, filter}
 use Rattle.std.specs.List.{range_with_len}
 use Rattle.std.proofs.lemmas.List.{map-id}
@@ -25,7 +25,8 @@ use Rattle.locality.proofs.Seat.{seat, seat_is}
 -- ---- a search from low on, none below which passes
 
 pub found_from : (n low : ℕ) (f : ℕ → Bool) (r : Option ℕ) → low ≤ n → ((k : ℕ) → k < low → f k ≡ false)
-    → MatchOption r ((k : ℕ) → low ≤ k → k < n → f k ≡ false) (λ i. (low ≤ i) × (i < n) × (f i ≡ true) × ((k : ℕ) → low ≤ k → k < i → f k ≡ false)) → Found n f r
+    → MatchOption r ((k : ℕ) → low ≤ k → k < n → f k ≡ false) (λ i. (low ≤ i) × (i < n) × (f i ≡ true) × ((k : ℕ) → low ≤ k → k < i → f k ≡ false))
+    → Found n f r
 found_from n low f None fits b m = (
   record {
     within = omega arith;

@@ -2,11 +2,14 @@
 use Rattle.std.specs.Prelude.{if◌then◌else◌, filter, sum_by}
 use Rattle.std.specs.List.{range_with_len}
 use Rattle.std.proofs.lemmas.List.Sums.{sum_by-cons}
+use Rattle.std.proofs.lemmas.Nat.{pow_pos, ones_cat, mod-pow-add}
+use Rattle.std.proofs.Math.Nat.{mod-lt}
+use lib.Count.{ones, ones-le}
 use mathlib.Core.Path.{◌≡◌, refl, sym, ap, ◌∙◌}
 use mathlib.Core.Logic.{◌≢◌, ⊎_elim}
 use mathlib.Core.Bool.{true, false}
 use mathlib.Core.List.{List, [], ◌∷◌, ◌++◌, map, map-append, append-nil, append_assoc}
-use Prim.Native.Nat.{ℕ, zero, suc, ◌+◌, ◌≤◌, ◌<◌, suc-le-suc}
+use Prim.Native.Nat.{ℕ, zero, suc, ◌+◌, ◌/◌, ◌%◌, ◌^◌, ◌≤◌, ◌<◌, suc-le-suc}
 use native.Mathlib.Nat.{le_of_suc-le-suc}
 use native.Mathlib.Numerals.{add-one}
 use native.Mathlib.Omega.{arith}
@@ -210,8 +213,25 @@ pub receivers_found : (m n : ℕ) → filter (bit m) (range_with_len 0 n) ≡ re
 unfolding receivers_below
 receivers_found m n = passing (bit m) n
 
-pub receivers_counted : (m n r : ℕ) → r ≡ length (filter (bit m) (range_with_len 0 n)) → (r ≡ length (receivers_below m n)) × (r ≤ n)
-receivers_counted m n r e = (e ∙ ap length (receivers_found m n), rw e (passing_few (bit m) n))
+-- and as the ones among its low bits
+one_or_none : (y : ℕ) → y < 2 → ones y ≡ (if eqb y 1 then 1 else 0)
+unfolding ones
+one_or_none zero h = refl
+one_or_none (suc zero) h = refl
+one_or_none (suc (suc y)) h = absurd (omega arith)
+
+ones_below : (m n : ℕ) → ones (m % 2 ^ n) ≡ length (receivers_below m n)
+unfolding receivers_below
+ones_below m zero = let none : m % 1 ≡ 0 = omega arith in rw none (unfold tab those ones in refl)
+ones_below m (suc n) =
+    let next : 1 + n ≡ suc n = omega arith in
+    let high : ones (m / 2 ^ n % 2) ≡ (if bit m n then 1 else 0) = one_or_none (m / 2 ^ n % 2) (omega arith) in
+    let low : m % 2 ^ n < 2 ^ n = mod-lt m (pow_pos n) in
+    ap ones (rw next at (mod-pow-add m 1 n)) ∙ ones_cat n (m / 2 ^ n % 2) (m % 2 ^ n) low
+    ∙ rw (high, ones_below m n) (omega (arith, rw add-one at (those_counted (bit m) (λ k. k) n)))
+
+pub receivers_counted : (m n : ℕ) → (ones (m % 2 ^ n) ≡ length (receivers_below m n)) × (ones (m % 2 ^ n) ≤ n)
+receivers_counted m n = (ones_below m n, ones-le n (m % 2 ^ n) (mod-lt m (pow_pos n)))
 
 -- what goes out of the first i of these sendings
 unfoldable pub out_to : ℕ → List code.Sending → ℕ → List Message

@@ -30,11 +30,7 @@ pub(crate) fn put_relays(w: &mut [u8], mask: u8)
     ensures { w.old ≡ image (begun mask 0 0) → w.new ≡ image (begun mask 8 0) }
 {
     for s in 0..rules::RELAYS as u8 {
-        image::put_head(
-            w,
-            s as usize * layout::RELAY_WIDTH,
-            start_head(mask, s),
-        );
+        image::put_head(w, s as usize * layout::RELAY_WIDTH, start_head(mask, s));
     }
 }
 

@@ -36,11 +36,13 @@ pub(crate) fn first_free(w: &[u8], low: usize) -> Option<usize>
     (low..rules::PLACES).find(|p| is_free(w, *p))
 }
 
-// Twelve bits: "0..7 relays, 8..11 desks".
+// "0..7 relays, 8..11 desks": a set of receivers is its twelve low bits.
+const RECEIVERS: u16 = 1 << rules::EVERYONE;
+
 pub(crate) fn receivers(m: u16) -> usize
     ensures { (result ≡ length (receivers_below m 12)) × (result ≤ 12) }
 {
-    (0..rules::EVERYONE).filter(|n| (m >> *n) % 2 == 1).count()
+    (m % RECEIVERS).count_ones() as usize
 }
 
 // Whether n places are free: the walk ends with the n-th of them.

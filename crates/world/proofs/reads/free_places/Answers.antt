@@ -12,4 +12,5 @@ pub returns : goal.returns
 returns c =
     places_counted c.args.w.now 256 c.count.result
     (count_from_yields_List c.filter.result c.count.result c.count.ensures.ran
-    (YieldsList-from_filter _ (free_row c.args.w.now) (YieldsList-from_range 0 256 256 (cc) (omega arith)) c.filter.ensures.closure (λ x r q k. search (rules, tests))))
+    (YieldsList-from_filter _ (free_row c.args.w.now) (YieldsList-from_range 0 256 256 (cc) (omega arith)) c.filter.ensures.closure
+    (λ x r q k. search (rules, tests))))

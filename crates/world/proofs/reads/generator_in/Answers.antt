@@ -15,4 +15,5 @@ pub returns : goal.returns
 unfolding generator_at
 returns c m =
     shown (generator_at_seat c.args.w.now c.requires.0 c.args.s c.requires.1 c.args.v m c.in_ok-row.field-0 c.in_ok-row.ensures.0) generator_of
-    c.in_ok-row.ensures.1 c.then.result (rw (← c.read_u16.ensures) c.then.ensures.variant) (IfSome_then c.then.result c.then.ensures.some (λ x q. generator_read _ _ (search rules)))
+    c.in_ok-row.ensures.1 c.then.result (rw (← c.read_u16.ensures) c.then.ensures.variant)
+    (IfSome_then c.then.result c.then.ensures.some (λ x q. generator_read _ _ (search rules)))

@@ -29,6 +29,7 @@ returns c =
     (count_from_yields_List c.take.result c.count.result c.count.ensures.ran
     (YieldsList-from_take c.args.n
     (YieldsList-at c.take.ensures.source
-    (YieldsList-from_filter _ (free_row c.args.w.now) (YieldsList-from_range 0 256 256 (cc) (omega arith)) c.filter.ensures.closure (λ x r q k. search (rules, tests))))
+    (YieldsList-from_filter _ (free_row c.args.w.now) (YieldsList-from_range 0 256 256 (cc) (omega arith)) c.filter.ensures.closure
+    (λ x r q k. search (rules, tests))))
     c.take.ensures.count))
     ∙ taken c.args.n _ ∙ ap (leb c.args.n) (rows_counted c.args.w.now 256)

@@ -16,4 +16,5 @@ pub returns : goal.returns
 unfolding transfer_at
 returns c v =
     shown (transfer_at_seat c.args.w.now c.requires.0 c.args.s c.requires.1 v c.args.o c.args.n c.in_ok-row.field-0 c.in_ok-row.ensures.0) transfer_of
-    c.in_ok-row.ensures.1 c.then.result (rw (← c.read_u16.ensures) c.then.ensures.variant) (IfSome_then c.then.result c.then.ensures.some (λ x q. transfer_read _ _ (search rules)))
+    c.in_ok-row.ensures.1 c.then.result (rw (← c.read_u16.ensures) c.then.ensures.variant)
+    (IfSome_then c.then.result c.then.ensures.some (λ x q. transfer_read _ _ (search rules)))

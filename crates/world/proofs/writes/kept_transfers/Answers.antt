@@ -25,7 +25,8 @@ loop-n-init c = (
       (YieldsList-at c.enumerate-n-items.ensures.source
       (YieldsList-from_filter _ (λ (t : Transfer). inside c.args.v t.new)
       (YieldsList-at c.filter.ensures.source
-      (YieldsList-from_map_by _ transfer_of (λ (k : ℕ). transfer_at c.args.w.now (c.args.at + k * transfer_width)) (YieldsList-from_range 0 8 8 (cc) (omega arith))
+      (YieldsList-from_map_by _ transfer_of (λ (k : ℕ). transfer_at c.args.w.now (c.args.at + k * transfer_width))
+      (YieldsList-from_range 0 8 8 (cc) (omega arith))
       c.map-rows.ensures.closure (λ x r q k. (search rules, transfer_read _ _ (search rules)))))
       c.filter.ensures.closure (λ x r q k. search (rules, tests))))
       c.enumerate-n-items.ensures.count),

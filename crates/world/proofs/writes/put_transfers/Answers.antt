@@ -25,7 +25,8 @@ returns-in_default c h =
 pub returns-in_default-transfer_seat : goal.returns-in_default-transfer_seat
 returns-in_default-transfer_seat c h =
     let same = c.if-view-read_u16.false ∙ c.read_u16.ensures in
-    absurd (contrary h (sym (moves_found c.args.w.now c.requires.0 c.args.s c.requires.1 c.args.part same c.in-Some.t c.in-Some.is None c.in_default-transfer_seat.ensures)))
+    let none = moves_found c.args.w.now c.requires.0 c.args.s c.requires.1 c.args.part same c.in-Some.t c.in-Some.is None c.in_default-transfer_seat.ensures in
+    absurd (contrary h (sym none))
 
 pub returns : goal.returns
 returns c h =

@@ -27,4 +27,5 @@ returns c W long e =
     (YieldsList-at c.into_iter-to-iterator.ensures.into_iter_gives
     (YieldsList-from_filter _ (bit c.args.x.receivers) (YieldsList-from_range 0 12 12 (cc) (omega arith)) c.filter-to-items.ensures.closure
     (λ x r q k. search (rules, tests)))) c.loop-to.yielded _ c.loop-to.yielded_by _ _ c.in-None.is c.next.ensures.steps in
-    rw (all_copies c.args.from (sending_of c.args.x), ← receivers_found c.args.x.receivers 12, ← seen.0, map-id c.loop-to.yielded) (c.loop-to.invariant.0.is W long e)
+    rw (all_copies c.args.from (sending_of c.args.x), ← receivers_found c.args.x.receivers 12, ← seen.0, map-id c.loop-to.yielded)
+    (c.loop-to.invariant.0.is W long e)
