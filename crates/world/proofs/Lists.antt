@@ -1,7 +1,15 @@
 -- Lists, as the searches, counts and loops of this crate ask for them: the first that passes, the part that passes of a list that grows, and one place
 -- written with what it holds. Assumes nothing.
 use Rattle.std.specs.Prelude.{if◌then◌else◌, Option, None, Some, is_some, MatchOption, filter}
-use Rattle.std.specs.List.{range_with_len}
+use Rattle.std.specs.Bool.{⊤}
+use Rattle.std.specs.Fn.{CalledAt}
+use Rattle.std.specs.Iterator.{YieldsThen}
+use Rattle.std.specs.List.{range_with_len, FoldsTo}
+use Rattle.std.specs.declared.ops.Range.{Range}
+use Rattle.std.proofs.iter.Yields.{nat_range_steps}
+use Rattle.std.proofs.lemmas.Iterator.{first_from_Range}
+use denote.Param.Members.{Mut}
+use denote.Ref.{Bor}
 use Rattle.std.proofs.lemmas.List.{map-id}
 use Rattle.std.proofs.lemmas.List.FromFn.{length-range_with_len, map-range_with_len_more}
 use Rattle.std.proofs.lemmas.List.Sums.{length-filter, count_by-le-length}
@@ -24,7 +32,7 @@ use Rattle.locality.proofs.Seat.{seat, seat_is}
 
 -- ---- a search from low on, none below which passes
 
-pub found_from : (n low : ℕ) (f : ℕ → Bool) (r : Option ℕ) → low ≤ n → ((k : ℕ) → k < low → f k ≡ false)
+found_from : (n low : ℕ) (f : ℕ → Bool) (r : Option ℕ) → low ≤ n → ((k : ℕ) → k < low → f k ≡ false)
     → MatchOption r ((k : ℕ) → low ≤ k → k < n → f k ≡ false) (λ i. (low ≤ i) × (i < n) × (f i ≡ true) × ((k : ℕ) → low ≤ k → k < i → f k ≡ false))
     → Found n f r
 found_from n low f None fits b m = (
@@ -43,6 +51,17 @@ found_from n low f (Some i) fits b m = (
   },
   m.1,
 )
+
+-- `find` over a range, by a closure that tests f
+pub found_by : {F : Type 0} {g : Mut F (Bor ℕ × Unit {0}) Bool} (s u : Range ℕ) (h : F) (f : ℕ → Bool) (r : Option ℕ) → s.start ≤ s.end
+    → ((k : ℕ) → k < s.start → f k ≡ false)
+    → (xs : List ℕ) × (j : F) × YieldsThen nat_range_steps s xs r u × FoldsTo (λ p x q. CalledAt g p x false q) h xs j
+    × MatchOption r ⊤ (λ x. (q : F) × CalledAt g j x true q)
+    → ((x : ℕ) (b : Bool) (q : F) → CalledAt g h x b q → (q ≡ h) × (b ≡ f x)) → Found s.end f r
+found_by s u h f r fits none ran computes =
+    found_from s.end s.start f r fits none
+    (first_from_Range s u h r (λ k. f k ≡ true) (λ k. f k ≡ false) ran (λ x q k. sym (computes x true q k).1)
+    (λ x q k. let t = computes x false q k in (t.0, sym t.1)))
 
 -- a seat is found where the first that passes is one of the eight
 pub seat_room : (f : ℕ → Bool) (b : Bool) → ((i : ℕ) → First 8 f i → ltb i 8 ≡ b) → (x : Option ℕ) → Found 8 f x → is_some x ≡ b

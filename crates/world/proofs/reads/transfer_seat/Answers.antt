@@ -1,16 +1,13 @@
 -- `world::reads::transfer_seat` meets its contract. Assumes nothing.
-use mathlib.Core.Path.{◌≡◌}
-use mathlib.Core.Bool.{true, false}
 use native.Mathlib.Omega.{arith}
 use borrow.Author.Rules.{rules}
-use Rattle.std.proofs.lemmas.Iterator.{first_from_Range}
+use borrow.Author.Tests.{tests}
 use Rattle.world.specs.Commits.{ends_move}
-use Rattle.world.proofs.Lists.{found_from}
+use Rattle.world.proofs.Lists.{found_by}
 use Rattle.world.proofs.reads.transfer_seat.Goals as goal
 
 pub returns : goal.returns
 unfolding ends_move
 returns c =
-    found_from 8 0 (ends_move c.args.w.now c.args.at c.args.o c.args.n) c.find.result (omega arith) (λ k h. absurd (omega arith))
-    (first_from_Range _ _ _ c.find.result (λ k. ends_move c.args.w.now c.args.at c.args.o c.args.n k ≡ true)
-    (λ k. ends_move c.args.w.now c.args.at c.args.o c.args.n k ≡ false) c.find.ensures.ran (λ x q k. search rules) (λ x q k. search rules))
+    found_by _ _ _ (ends_move c.args.w.now c.args.at c.args.o c.args.n) _ (omega arith) (λ k h. absurd (omega arith)) c.find.ensures.ran
+    (λ x b q k. search (rules, tests))
