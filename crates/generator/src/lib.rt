@@ -1,5 +1,5 @@
 // The rules at one generator: Propose, Proposal, Converged. Document 01, "Delivery at a relay".
-#![tactic(auto, unfolding(crate::specs::Rows::fresh_row, crate::specs::Rows::noted_row))]
+#![tactic(auto, using(messages::proofs::Sent::all_is, messages::proofs::Made::said_is, crate::proofs::Rows::noted_means, views::proofs::Rows::held), unfolding(crate::specs::Heard::merged_in_row, crate::specs::Heard::hears_in_row, crate::specs::Heard::heard_in_row, rules::specs::Generators::hears, crate::specs::Rows::fresh_row, crate::specs::Rows::noted_row, state::specs::Plans::turn_of, state::specs::Plans::turned, state::specs::Meaning::generator_of, state::specs::Meaning::sending_of, rules::specs::Generators::proposes, rules::specs::Generators::with_own, rules::specs::Generators::settles, rules::specs::Generators::converged_heard, rules::specs::Generators::notes_converged, rules::specs::Generators::raises))]
 
 ghost use Rattle.std.specs.Prelude.{◌≡◌, [], ◌∷◌};
 ghost use Rattle.views.specs.Row.{views_of};

@@ -35,9 +35,12 @@ module _ {r : Body} (q : Sequence) (x : rules.Body) (e : r ≡ made_with q x) (f
   unfolding body_of
   made_says = ap body_in made_row ∙ (row_of_lem 0 0 x).says
 
--- the same as an equation, of a body that says no sequence
+-- the same as equations, which a tactic applies from left to right: of a body that says the sequence, and of one that says none
+pub said_is : (q : Sequence) (x : rules.Body) → Says q x → body_of (made_with q x) ≡ x
+said_is q x f = made_says q x refl f
+
 pub made_is : (x : rules.Body) → (body_row 0 0 x).sequence ≡ [] → body_of (made x) ≡ x
-made_is x e = made_says (row_of []) x refl (go _ ∙ none ∙ sym e)
+made_is x e = said_is (row_of []) x (go _ ∙ none ∙ sym e)
   where
     go : (b : Bool) → views_of (if b then row_of [] else row_of []) ≡ views_of (row_of [])
     go true = refl

@@ -53,3 +53,7 @@ pub before_means : {r : Sendings} (s : Sending) (x : Sendings) (ss : List rules.
     → sendings_of r ≡ bounded (sending_of s ∷ ss)
 unfolding sendings_of
 before_means s x ss e f = all_means (s ∷ x.of) e ∙ rw f (padded_front no_sending most (sending_of s) ss)
+
+-- the same as an equation, which a tactic applies from left to right
+pub all_is : (xs : List Sending) → sendings_of (all_sent xs) ≡ bounded (map sending_of xs)
+all_is xs = all_means xs refl

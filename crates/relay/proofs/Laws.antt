@@ -2,7 +2,7 @@
 use Rattle.std.specs.Prelude.{Option, None, Some, Ok, MatchOption, IsTrue, if◌then◌else◌}
 use mathlib.Core.Path.{◌≡◌, refl, sym, ap, ◌∙◌}
 use mathlib.Core.Bool.{Bool, true, false, and-true}
-use mathlib.Core.List.{List, [], ◌∷◌}
+use mathlib.Core.List.{List, [], ◌∷◌, map}
 use Prim.Native.Nat.{ℕ, ◌<◌}
 use native.Mathlib.Omega.{arith}
 use lib.Dec.{eqb, lit<}
@@ -13,7 +13,7 @@ use Rattle.views.specs.Row.{views_of, row_of}
 use Rattle.views.proofs.Rows.{views_length, held}
 use Rattle.rules.specs.Sets.{inside, beyond, all}
 use Rattle.rules.specs.Stamps.{Pair}
-use Rattle.rules.specs.Messages.{Body, Refusal, bad_world, bad_step, empty, dead, not_now, not_yet, worn, no_room, number, Answer, refused, does, quietly, sends}
+use Rattle.rules.specs.Messages.{Refusal, bad_world, bad_step, empty, dead, not_now, not_yet, worn, no_room, number, Answer, refused, does}
 use Rattle.rules.specs.State.{Generator, Transfer, Relay, no_relay, with_known, with_active}
 use Rattle.rules.specs.Generators.{put_generator, with_own, hears}
 use Rattle.rules.specs.Relays.{is_for, learns, transfer_for, put_transfer, keeps, gathers, sent_first}
@@ -22,14 +22,13 @@ use Rattle.rules.proofs.Lists.{those_fewer}
 use Rattle.rules.proofs.Transfers.{found_old, found_new}
 use Rattle.state.specs.declared.Transfer as code
 use Rattle.state.specs.declared.Sending as code-sending
-use Rattle.state.specs.declared.Body as code-body
-use Rattle.state.specs.declared.Event.TheVariants.{Nothing}
+use Rattle.state.specs.declared.Event as code-event
 use Rattle.state.specs.declared.Part.{Part}
 use Rattle.state.specs.declared.Plan.{Plan}
-use Rattle.state.specs.Meaning.{listed, transfer_of, part_of, body_of, sending_of}
+use Rattle.state.specs.Meaning.{listed, transfer_of, part_of, sending_of, event_of}
 use Rattle.state.specs.Plans.{Planned, plan_of, planned}
-use Rattle.messages.specs.Made.{send_to, plan_of_all}
-use Rattle.messages.proofs.Plans.{quiet_says, one_says, first_says}
+use Rattle.messages.specs.Made.{plan_of_all}
+use Rattle.messages.proofs.Plans.{plan_says, first_says}
 use Rattle.generator.specs.Heard.{merged_in_row, hears_in_row, heard_in_row}
 use Rattle.relay.specs.Fitting.{shows_both}
 
@@ -93,23 +92,10 @@ module _ (r t : code.Transfer) (o w : ℕ) (ts : List Transfer) (found : transfe
 
 -- ---- the plans that are made
 
-pub quietly_says : {p : Plan Part} (next : Part) → p ≡ plan_of_all next [] Nothing → plan_of (Ok p) ≡ planned no_relay (quietly (part_of next))
+pub plan_is : (next : Part) (ss : List code-sending.Sending) (e : code-event.Event)
+    → plan_of (Ok (plan_of_all next ss e)) ≡ planned no_relay (does (part_of next) (map sending_of ss) (event_of e))
 unfolding plan_of
-quietly_says next h = quiet_says part_of no_relay next h
-
-pub sends_says : {p : Plan Part} (next : Part) (s : code-sending.Sending) {n : ℕ} {b : code-body.Body} {x : Body}
-    → p ≡ plan_of_all next (s ∷ []) Nothing → s ≡ send_to n b → body_of b ≡ x
-    → plan_of (Ok p) ≡ planned no_relay (sends (part_of next) (record { body = x; receivers = n } ∷ []))
-unfolding plan_of
-sends_says next s h e f = one_says part_of no_relay next s h e f
-
--- the same as equations, which a tactic applies from left to right
-pub quietly_is : (next : Part) → plan_of (Ok (plan_of_all next [] Nothing)) ≡ planned no_relay (quietly (part_of next))
-quietly_is next = quietly_says next refl
-
-pub sends_is : (next : Part) (s : code-sending.Sending) → plan_of (Ok (plan_of_all next (s ∷ []) Nothing)) ≡ planned no_relay (sends (part_of next) (sending_of s ∷ []))
-unfolding sending_of
-sends_is next s = sends_says next s refl refl refl
+plan_is next ss e = plan_says part_of no_relay next ss e
 
 -- ---- an install: a plan is no refusal, so what is sent first goes before what the rule sends
 
@@ -126,7 +112,7 @@ number_pos no_room = lit< tt
 pub first_answer : {p : Plan Part} (s : code-sending.Sending) (later : Plan Part) (x : Answer Relay) → p ≡ plan_of_all later.next (s ∷ later.sends.of) later.event
     → plan_of (Ok later) ≡ planned no_relay x → plan_of (Ok p) ≡ planned no_relay (sent_first (sending_of s ∷ []) x)
 unfolding plan_of planned
-first_answer s later (does a ss e) h k = first_says part_of no_relay s later a ss e h k
+first_answer s later (does a ss e) h k = rw h (first_says part_of no_relay s later a ss e k)
 first_answer s later (refused x) h k = absurd (omega (arith, number_pos x, ap (λ (q : Planned Relay). q.answer) k))
 
 pub sent-none : (a : Answer Relay) → sent_first [] a ≡ a

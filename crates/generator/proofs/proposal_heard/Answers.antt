@@ -12,10 +12,6 @@ use Rattle.messages.proofs.Sent.{before_means}
 use Rattle.generator.specs.Heard.{merged_in_row, hears_in_row, heard_in_row}
 use Rattle.generator.proofs.proposal_heard.Goals as goal
 
-pub returns-then-not-lacks : goal.returns-then-not-lacks
-unfolding heard_in_row hears_in_row turned generator_of
-returns-then-not-lacks c = c.settles-settled.ensures ∙ rw (c.merged-heard.ensures, ← c.if-not-lacks.ensures)
-
 pub returns : goal.returns
 unfolding heard_in_row hears_in_row turn_of turned generator_of
 returns c =
