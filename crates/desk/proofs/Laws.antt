@@ -24,7 +24,7 @@ pub desk_does :
     (next : Desk) (xs : List Sending) (e : Event)
     → desk_plan_of (Ok (plan_of_all next xs e)) ≡ planned no_desk (does next (map sending_of xs) (event_of e))
 unfolding desk_plan_of
-desk_does next xs e = plan_says (λ (d : Desk). d) no_desk next xs e refl
+desk_does next xs e = plan_says (λ (d : Desk). d) no_desk next xs e
 
 -- "does nothing"
 pub desk_quiet : (d : Desk) → desk_plan_of (Ok (plan_of_all d [] Nothing)) ≡ planned no_desk (quietly d)
