@@ -18,6 +18,17 @@ number_of Worn = 7
 number_of NoRoom = 8
 number_of BadSheet = 9
 
+-- "1 JOIN relay, 2 LEAVE relay, 3 TIMER relay, 4 READ desk, 5 WRITE desk value, 6 DELIVER place, 7 DROP place, 8 CRASH who"
+abbrev pub kind_number : StepKind → ℕ
+kind_number Join = JOIN
+kind_number Leave = LEAVE
+kind_number Timer = TIMER
+kind_number Read = READ
+kind_number Write = WRITE
+kind_number Deliver = DELIVER
+kind_number Drop = DROP
+kind_number Crash = CRASH
+
 -- the kind that a number tells; of any other, BAD STEP: "kind [..] out of range"
 unfoldable pub kind_told : ℕ → Result StepKind Refusal
 kind_told n =

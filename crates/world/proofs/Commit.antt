@@ -1,13 +1,14 @@
 -- A plan committed: what its answer says of the rule's, the room that it needs, and the world after it. Assumes nothing.
-use Rattle.std.specs.Prelude.{if◌then◌else◌}
+use Rattle.std.specs.Prelude.{if◌then◌else◌, Result, Ok, Err}
 use mathlib.Core.Path.{◌≡◌, refl, sym, ap, ◌∙◌}
 use mathlib.Core.Logic.{◌≢◌, ⊎_elim}
 use mathlib.Core.Bool.{Bool, true, false, ◌&&◌, and-false}
 use mathlib.Core.List.{List}
-use Prim.Native.Nat.{ℕ, ◌+◌, ◌<◌}
+use Prim.Native.Nat.{ℕ, ◌+◌, ◌-◌, ◌<◌}
 use native.Mathlib.Omega.{arith}
 use lib.Dec.{leb, ltb}
 use lib.ListN.{length}
+use borrow.Author.Tests.{le-ltb}
 use Rattle.views.proofs.Truth.{decided}
 use Rattle.rows.specs.Bytes.{placed}
 use Rattle.rows.proofs.Laws.{placed_fits}
@@ -15,7 +16,11 @@ use Rattle.rules.specs.Messages.{Sending, outgoing, Refusal, bad_world, bad_step
 use Rattle.rules.specs.State.{Relay, no_relay, no_desk, World, relay_at, with_relay, with_desk, with_places}
 use Rattle.rules.specs.declared.Desk.{Desk}
 use Rattle.rules.specs.Sending.{place_all, free_in}
-use Rattle.rules.specs.Steps.{reports, roomy, relay_does, desk_does, freed}
+use Rattle.rules.specs.Coded.{number_of}
+use Rattle.rules.specs.declared.Refusal.{Refusal as Code-refusal}
+use Rattle.rules.specs.declared.Refusal.TheVariants.{BadWorld, BadStep, Empty, Dead, NotNow, NotYet, Worn, NoRoom, BadSheet}
+use Rattle.rules.specs.Steps.{no_report, reports, roomy, relay_does, desk_does, freed}
+use Rattle.rules.specs.Steps as rules-steps
 use Rattle.layout.specs.Layout.{desk_begin}
 use Rattle.layout.specs.Image.{desk_bytes, image, world_at, good_bytes}
 use Rattle.layout.specs.Lent.{kept}
@@ -23,15 +28,29 @@ use Rattle.layout.proofs.Widths.{length-desk, length-image}
 use Rattle.layout.proofs.World.{good_image}
 use Rattle.layout.proofs.Write.{put-desk}
 use Rattle.state.specs.Plans.{Planned, planned}
-use Rattle.world.specs.Answer.{accepted}
+use Rattle.world.specs.declared.Report.{Report}
+use Rattle.world.specs.declared.Answer.{Answer as Given-answer}
+use Rattle.world.specs.Answer.{report_of, answer_of, lent_of, done_of, accepted}
 use Rattle.locality.specs.Narrow.{widened}
 use Rattle.locality.specs.Asked.{Few}
-use Rattle.world.specs.Commits.{free_rows, freed_at, delivered, relay_left, desk_left}
+use Rattle.world.specs.Commits.{row_of, free_rows, freed_at, delivered, relay_left, desk_left}
 use Rattle.locality.proofs.Few.{bounded_out}
 use Rattle.world.proofs.Places.{free_rows_lem, freed_rooms, freed_long}
 use Rattle.world.proofs.Good.{shaped}
 
 -- ---- the answer that a plan is for
+
+-- a refusal of the code has a number too
+pub coded_number : (x : Code-refusal) → number_of x ≢ 0
+coded_number BadWorld e = omega arith
+coded_number BadStep e = omega arith
+coded_number Empty e = omega arith
+coded_number Dead e = omega arith
+coded_number NotNow e = omega arith
+coded_number NotYet e = omega arith
+coded_number Worn e = omega arith
+coded_number NoRoom e = omega arith
+coded_number BadSheet e = omega arith
 
 some_number : (x : Refusal) → number x ≢ 0
 some_number bad_world e = omega arith
@@ -64,6 +83,25 @@ module _ {A : Type 0} (blank : A) where
   unfolding planned Few
   plan_does (refused x) plan e f z = absurd (some_number x (rw e at z))
   plan_does (does m ss ev) plan e f z = rw e (record { sendings = ss; is = refl; out = λ from. sym (bounded_out from ss f) })
+
+-- a refusal leaves the buffer as it was, and reports nothing
+pub refused_kept : (x : Code-refusal) (why : Refusal) (b : List ℕ) → number_of x ≡ number why → done_of (Err x) b ≡ kept why b
+unfolding done_of
+refused_kept x why b e = ap (λ (n : ℕ). record { answer = n; report = no_report; buffer = b }) e
+
+-- what is done, with what it reports
+pub done_accepted : (r : Report) (e : rules-steps.Report) (b : List ℕ) → report_of r ≡ e → done_of (Ok r) b ≡ accepted e b
+unfolding done_of
+done_accepted r e b q = ap (λ (x : rules-steps.Report). record { answer = 0; report = x; buffer = b }) q
+
+-- the answer that stands for what was done, or for a refusal, says the same
+says : (r : Result Report Code-refusal) (b : List ℕ) → lent_of (answer_of r) b ≡ done_of r b
+unfolding lent_of answer_of done_of report_of
+says (Ok r) b = refl
+says (Err x) b = refl
+
+pub answered : (a : Given-answer) (r : Result Report Code-refusal) (b : List ℕ) → a ≡ answer_of r → lent_of a b ≡ done_of r b
+answered a r b e = rw e (says r b)
 
 -- ---- the world after it: the delivered place freed, then what is sent
 
@@ -131,6 +169,12 @@ module _ (b : List ℕ) (good : good_bytes b ≡ true) (p s k : ℕ) (a : Answer
       → accepted (reports plan.event s) l ≡ relay_left b k p s a
   unfolding relay_left relay_does
   relay_done r t l q = rw (to_do.is, to_do.out s, room_of b good p d s plan.sendings ∙ r, t, q, relay_freed w p s made)
+
+-- the row of a desk, by its number among the twelve
+pub desk_row : (n : ℕ) → row_of (8 + n) ≡ desk_begin n
+desk_row n =
+    let back : 8 + n - 8 ≡ n = omega arith in
+    rw (le-ltb (8 + n) 8 (omega arith), back)
 
 module _ (b : List ℕ) (good : good_bytes b ≡ true) (n : ℕ) where
   pub desk-put : n < 4 → (d : Desk) → placed b (desk_begin n) (desk_bytes d) ≡ image (with_desk (world_at b) n d)

@@ -1,5 +1,5 @@
 -- How a step is routed: which act it tells, which message a place holds, and what the acts are of their parts. Assumes nothing.
-use Rattle.std.specs.Prelude.{if◌then◌else◌}
+use Rattle.std.specs.Prelude.{if◌then◌else◌, Result, Ok, MatchResult, ◌≢◌}
 use mathlib.Core.Path.{◌≡◌, refl, sym, ap, ◌∙◌}
 use mathlib.Core.Logic.{⊎_elim}
 use mathlib.Core.Bool.{Bool, true, false, not, ◌&&◌, ◌||◌, and-false, and-eq-true_iff}
@@ -14,6 +14,11 @@ use Rattle.rules.specs.State.{Relay, Place, free, waiting, World, relay_at, desk
 use Rattle.rules.specs.declared.Desk as rules-desk
 use Rattle.rules.specs.Steps.{drop, Act, no_report, deliver, bad, told, Outcome, refusal, relay_does, desk_does, alive_in, if_alive, freed, delivers, delivery, dropping, crashing, acts, stepped}
 use Rattle.rules.specs.declared.Step.{Step}
+use Rattle.rules.specs.declared.StepKind.{StepKind}
+use Rattle.rules.specs.declared.StepKind.TheVariants.{Join, Leave, Timer, Read, Write, Deliver, Drop, Crash}
+use Rattle.rules.specs.declared.Refusal.{Refusal}
+use Rattle.rules.specs.declared.Refusal.TheVariants.{BadStep}
+use Rattle.rules.specs.Coded.{kind_told}
 use Rattle.rules.specs.Relays.{relay_hears}
 use Rattle.rules.specs.Desks.{desk_hears}
 use Rattle.rules.specs.WellFormed.{good_body, good_place}
@@ -31,62 +36,86 @@ use Rattle.image.proofs.Parts.{place_is}
 use Rattle.world.specs.Answer.{accepted}
 use Rattle.locality.specs.Narrow.{generator_of_body, move, move_of_body, widens}
 use Rattle.locality.specs.Asked.{relay_asked, desk_asked}
-use Rattle.world.specs.Commits.{free_row, freed_at, delivered, relay_left, desk_left, relay_acts, desk_acts, place_act, actor_of}
+use Rattle.world.specs.Commits.{free_row, freed_at, delivered, relay_left, desk_left, relay_steps, desk_steps, crash_steps}
 use Rattle.world.proofs.Places.{free-row, is_free_lem}
 use Rattle.world.proofs.Good.{place_at_lem, good_place_lem}
 
 -- ---- which act a step tells
 
-other : (m j : ℕ) → j < m → eqb m j ≡ false
-other m j h = ne_eqb m j (λ (e : m ≡ j). omega arith)
+abbrev pub kind_number : StepKind → ℕ
+kind_number Join = 1
+kind_number Leave = 2
+kind_number Timer = 3
+kind_number Read = 4
+kind_number Write = 5
+kind_number Deliver = 6
+kind_number Drop = 7
+kind_number Crash = 8
 
--- what a kind makes who do; 12 is nobody
-abbrev pub doing : World → ℕ → ℕ → ℕ → Outcome
-doing w kind who x = if eqb kind 8 then crashing w who else if ltb who 8 then relay_acts w kind who else desk_acts w kind (who - 8) x
-
-abbrev pub routed : World → ℕ → ℕ → ℕ → Outcome
-routed w kind who x = if ltb who 12 then if_alive w who (doing w kind who x) else refusal bad_step
+-- no other kind is the fifth
+pub other_kind : (kind : StepKind) → kind_number kind ≡ 5 → kind ≡ Write
+other_kind Join e = absurd (omega arith)
+other_kind Leave e = absurd (omega arith)
+other_kind Timer e = absurd (omega arith)
+other_kind Read e = absurd (omega arith)
+other_kind Write e = refl
+other_kind Deliver e = absurd (omega arith)
+other_kind Drop e = absurd (omega arith)
+other_kind Crash e = absurd (omega arith)
 
 module _ (k : Step) where
+  -- what the kind that its number tells says of a step: the number, or that the step tells no act
+  abbrev pub Tells : Result StepKind Refusal → Type 0
+  Tells r = MatchResult r (λ kind. k.kind ≡ kind_number kind) (λ x. (x ≡ BadStep) × (told k ≡ bad))
+
+  of_kind : (m : ℕ) (kind : StepKind) (r : Result StepKind Refusal) → m ≡ kind_number kind → (eqb k.kind m ≡ false → Tells r) → Tells (if eqb k.kind m then Ok kind else r)
+  of_kind m kind r q f = cases Tells (eqb k.kind m) (λ e. eqb-true k.kind m e ∙ q) f
+
+  pub kind_tells : Tells (kind_told k.kind)
+  unfolding kind_told told
+  kind_tells =
+      of_kind 1 Join _ refl (λ a. of_kind 2 Leave _ refl (λ b. of_kind 3 Timer _ refl (λ c. of_kind 4 Read _ refl (λ d.
+      of_kind 5 Write _ refl (λ e. of_kind 6 Deliver _ refl (λ f. of_kind 7 Drop _ refl (λ g. of_kind 8 Crash _ refl (λ h.
+      (refl, rw (a, b, c, d, e, f, g, h))))))))))
+
   -- "A value other than 0 belongs to WRITE only."
-  abbrev pub valued : ℕ → Bool
-  valued kind = not (eqb kind 5) && not (eqb k.value 0)
-
-  pub told_valued : valued k.kind ≡ true → told k ≡ bad
+  pub told_valued : k.kind ≢ 5 → k.value ≢ 0 → told k ≡ bad
   unfolding told
-  told_valued h =
-      let two = (and-eq-true_iff (not (eqb k.kind 5)) (not (eqb k.value 0))).0 h in
-      simp (not-true (eqb k.kind 5) two.0, not-true (eqb k.value 0) two.1, and-false)
+  told_valued e v = simp (ne_eqb k.kind 5 e, ne_eqb k.value 0 v, and-false)
 
-  module _ (v : valued k.kind ≡ false) where
-    pub told-place : eqb k.kind 6 || eqb k.kind 7 ≡ true → k.id < 256 → told k ≡ place_act k.kind k.id
-    unfolding told
-    told-place t h = ⊎_elim (λ e. let q = eqb-true k.kind 6 e in rw (q, not-false (eqb k.value 0) (rw q at v), lt-ltb k.id 256 h)) (λ e. let q = eqb-true k.kind 7 e in rw (q, not-false (eqb k.value 0) (rw q at v), lt-ltb k.id 256 h)) (either_true (eqb k.kind 6) (eqb k.kind 7) t)
+  module _ (w : World) where
+    module _ (none : k.value ≡ 0) where
+      pub join_steps : k.kind ≡ 1 → acts w (told k) ≡ relay_steps w 1 k.id
+      unfolding acts told relay_asked
+      join_steps e = rw (e, none) (⊎_elim (λ t. rw t) (λ t. rw t) (decided (ltb k.id 8)))
 
-    pub acted : (w : World) → eqb k.kind 6 || eqb k.kind 7 ≡ false → k.value < 4294967296 → acts w (told k) ≡ routed w k.kind (actor_of k.kind k.id) k.value
-    unfolding acts told actor_of relay_asked desk_asked
-    acted w p h = go k.kind refl v p
-      where
-        i : ℕ
-        i = k.id
+      pub leave_steps : k.kind ≡ 2 → acts w (told k) ≡ relay_steps w 2 k.id
+      unfolding acts told relay_asked
+      leave_steps e = rw (e, none) (⊎_elim (λ t. rw t) (λ t. rw t) (decided (ltb k.id 8)))
 
-        back : 8 + i - 8 ≡ i
-        back = omega arith
+      pub timer_steps : k.kind ≡ 3 → acts w (told k) ≡ relay_steps w 3 k.id
+      unfolding acts told relay_asked
+      timer_steps e = rw (e, none) (⊎_elim (λ t. rw t) (λ t. rw t) (decided (ltb k.id 8)))
 
-        beyond : (m : ℕ) → k.kind ≡ m → 9 ≤ m → acts w (told k) ≡ routed w m (actor_of m i) k.value
-        beyond m e l = rw e (simp (lt-leb m 3 (omega arith), lt-leb m 5 (omega arith), and-false, other m 1 (omega arith), other m 2 (omega arith), other m 3 (omega arith), other m 4 (omega arith), other m 5 (omega arith), other m 6 (omega arith), other m 7 (omega arith), other m 8 (omega arith)))
+      pub read_steps : k.kind ≡ 4 → acts w (told k) ≡ desk_steps w 4 k.id 0
+      unfolding acts told desk_asked
+      read_steps e = rw (e, none) (⊎_elim (λ t. rw t) (λ t. rw t) (decided (ltb k.id 4)))
 
-        go : (n : ℕ) → k.kind ≡ n → valued n ≡ false → eqb n 6 || eqb n 7 ≡ false → acts w (told k) ≡ routed w n (actor_of n i) k.value
-        go zero e z p = rw e
-        go (suc zero) e z p = rw (e, not-false (eqb k.value 0) z) (⊎_elim (λ t. rw t (rw (t, lt-ltb i 12 (omega (arith, ltb-true i 8 t))))) (λ t. rw t) (decided (ltb i 8)))
-        go (suc (suc zero)) e z p = rw (e, not-false (eqb k.value 0) z) (⊎_elim (λ t. rw t (rw (t, lt-ltb i 12 (omega (arith, ltb-true i 8 t))))) (λ t. rw t) (decided (ltb i 8)))
-        go (suc (suc (suc zero))) e z p = rw (e, not-false (eqb k.value 0) z) (⊎_elim (λ t. rw t (rw (t, lt-ltb i 12 (omega (arith, ltb-true i 8 t))))) (λ t. rw t) (decided (ltb i 8)))
-        go (suc (suc (suc (suc zero)))) e z p = rw (e, not-false (eqb k.value 0) z) (⊎_elim (λ t. rw t (rw (lt-ltb (8 + i) 12 (omega (arith, ltb-true i 4 t)), le-ltb (8 + i) 8 (omega arith), back))) (λ t. rw t) (decided (ltb i 4)))
-        go (suc (suc (suc (suc (suc zero))))) e z p = rw (e, lt-ltb k.value 4294967296 h) (⊎_elim (λ t. rw t (rw (lt-ltb (8 + i) 12 (omega (arith, ltb-true i 4 t)), le-ltb (8 + i) 8 (omega arith), back))) (λ t. rw t) (decided (ltb i 4)))
-        go (suc (suc (suc (suc (suc (suc zero)))))) e z p = absurd (contrary refl p)
-        go (suc (suc (suc (suc (suc (suc (suc zero))))))) e z p = absurd (contrary refl p)
-        go (suc (suc (suc (suc (suc (suc (suc (suc zero)))))))) e z p = rw (e, not-false (eqb k.value 0) z) (⊎_elim (λ t. rw t (rw t)) (λ t. rw t) (decided (ltb i 12)))
-        go (suc (suc (suc (suc (suc (suc (suc (suc (suc n))))))))) e z p = beyond _ e (omega arith)
+      pub delivers_told : k.kind ≡ 6 → k.id < 256 → told k ≡ deliver k.id
+      unfolding told
+      delivers_told e h = rw (e, none, lt-ltb k.id 256 h)
+
+      pub drops_told : k.kind ≡ 7 → k.id < 256 → told k ≡ drop k.id
+      unfolding told
+      drops_told e h = rw (e, none, lt-ltb k.id 256 h)
+
+      pub crash_told : k.kind ≡ 8 → acts w (told k) ≡ crash_steps w k.id
+      unfolding acts told
+      crash_told e = rw (e, none) (⊎_elim (λ t. rw t) (λ t. rw t) (decided (ltb k.id 12)))
+
+    pub write-steps : k.kind ≡ 5 → k.value < 4294967296 → acts w (told k) ≡ desk_steps w 5 k.id k.value
+    unfolding acts told desk_asked
+    write-steps e h = rw (e, lt-ltb k.value 4294967296 h) (⊎_elim (λ t. rw t) (λ t. rw t) (decided (ltb k.id 4)))
 
 -- ---- an act of who is dead, and of who is alive
 
@@ -122,9 +151,13 @@ module _ (b : List ℕ) (good : good_bytes b ≡ true) (p : ℕ) (hp : p < 256) 
   pub free-place : free_row b p ≡ is_free (place_at w p)
   free-place = ap (λ (l : List ℕ). free_row l p) (sym (good_image b good)) ∙ free-row w p hp
 
-  pub empty_left : (kind : ℕ) → free_row b p ≡ true → kept empty b ≡ left b (acts w (place_act kind p))
-  unfolding acts delivery dropping
-  empty_left kind e = let q = is_free_lem (place_at w p) (sym free-place ∙ e) in cases (λ (a : Act). kept empty b ≡ left b (acts w a)) (eqb kind 6) (λ _. rw q) (λ _. rw q)
+  pub deliver_empty : free_row b p ≡ true → kept empty b ≡ left b (acts w (deliver p))
+  unfolding acts delivery
+  deliver_empty e = rw (is_free_lem (place_at w p) (sym free-place ∙ e))
+
+  pub drop_empty : free_row b p ≡ true → kept empty b ≡ left b (acts w (drop p))
+  unfolding acts dropping
+  drop_empty e = rw (is_free_lem (place_at w p) (sym free-place ∙ e))
 
   module _ (m : code-message.Message) where
     pub place-holds : free_row b p ≡ false → message_row m ≡ row_at b (place_begin p) → place_at w p ≡ waiting (message_of m)
@@ -171,21 +204,6 @@ pub to_below : (m : Message) (x : Body) → good_body m x ≡ true → m.to < 12
 to_below m x g =
     ⊎_elim (λ e. omega (arith, ltb-true m.to 8 e)) (λ e. ltb-true m.to 12 ((and-eq-true_iff (leb 8 m.to) (ltb m.to 12)).0 (to-desk m x g e)).1)
     (decided (ltb m.to 8))
-
--- ---- what a message is about, by its kind
-
-abbrev AboutNone : Body → Type 0
-AboutNone x = (0 ≡ generator_of_body x) × (move 0 0 ≡ move_of_body x)
-
-module _ (b : Code-body.Body) where
-  pub about_none : eqb b.kind 5 || eqb b.kind 6 ≡ false → eqb b.kind 3 || eqb b.kind 4 ≡ false → AboutNone (body_of b)
-  unfolding body_of body_in
-  about_none c d =
-      let e = neither_true (eqb b.kind 5) (eqb b.kind 6) c in
-      let f = neither_true (eqb b.kind 3) (eqb b.kind 4) d in
-      rw (f.0, f.1, e.0, e.1)
-      (cases AboutNone (eqb b.kind 1) (λ _. (refl, refl)) (λ _. cases AboutNone (eqb b.kind 2) (λ _. (refl, refl)) (λ _. cases AboutNone (eqb b.kind 7) (λ _. (refl, refl))
-      (λ _. cases AboutNone (eqb b.kind 8) (λ _. (refl, refl)) (λ _. cases AboutNone (eqb b.kind 9) (λ _. (refl, refl)) (λ _. cases AboutNone (eqb b.kind 10) (λ _. (refl, refl)) (λ _. (refl, refl))))))))
 
 -- ---- DROP, and any step of good bytes
 

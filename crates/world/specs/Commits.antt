@@ -3,10 +3,10 @@ use Rattle.std.specs.Prelude.{◌≡◌, Bool, true, false, not, ◌&&◌, ◌||
 use Rattle.std.specs.Prelude.{Option, unwrap_or, IfSome, if◌then◌else◌}
 use Rattle.rows.specs.Bytes.{u16_at, tab}
 use Rattle.rules.specs.Sets.{bit, those, inside, relay_count, desk_count, everyone}
-use Rattle.rules.specs.Messages.{Body, Message, Answer}
+use Rattle.rules.specs.Messages.{Body, Message, bad_step, Answer}
 use Rattle.rules.specs.State.{Transfer, Relay, Place, free, waiting, no_relay, no_desk, World, relay_at, desk_at, place_at, start_relay, start_desk}
 use Rattle.rules.specs.declared.Desk.{Desk}
-use Rattle.rules.specs.Steps.{JOIN, TIMER, READ, WRITE, DELIVER, CRASH, Act, deliver, drop, Outcome, relay_does, desk_does, freed}
+use Rattle.rules.specs.Steps.{Outcome, refusal, relay_does, desk_does, if_alive, freed, crashing}
 use Rattle.layout.specs.Layout.{generator_width, transfer_new, transfer_width, relay_begin, desk_begin, place_begin}
 use Rattle.layout.specs.Image.{transfer_at, world_at}
 use Rattle.layout.specs.Lent.{Lent, left}

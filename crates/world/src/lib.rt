@@ -2,7 +2,7 @@
 // so a refused step changes no byte.
 #![tactic(auto)]
 
-ghost use Rattle.std.specs.Prelude.{◌≡◌, true, ℕ, ◌≤◌, ◌<◌, Result, unwrap_or};
+ghost use Rattle.std.specs.Prelude.{◌≡◌, ◌≢◌, true, false, ℕ, ◌≤◌, ◌<◌, Result, unwrap_or};
 ghost use Rattle.rules.specs.Messages as rules;
 ghost use Rattle.rules.specs.State.{Relay, no_relay, no_desk, waiting, place_at};
 ghost use Rattle.rules.specs.declared.Desk as code;
@@ -15,11 +15,13 @@ ghost use Rattle.world.specs.Answer.{report_of, answer_of, lent_of, done_of};
 ghost use Rattle.locality.specs.Narrow.{generator_of_body, move, move_of_body};
 ghost use Rattle.locality.specs.Asked.{Few, relay_asked, desk_asked};
 ghost use Rattle.relay.specs.Fitting.{shows_view};
+ghost use Rattle.rules.specs.Coded.{kind_number};
+ghost use Rattle.rules.specs.declared.StepKind.TheVariants.{Write};
 ghost use Rattle.rules.specs.declared.Refusal as code-refusal;
 ghost use Rattle.state.specs.declared.Part as code-part;
 ghost use Rattle.state.specs.declared.Plan as code-plan;
-ghost use Rattle.world.specs.Commits.{delivered, relay_left, desk_left, relay_steps, desk_steps, crash_steps};
 ghost use Rattle.world.specs.Tracing.{waiting_rows};
+ghost use Rattle.world.specs.Commits.{delivered, relay_left, desk_left, relay_steps, desk_steps, crash_steps};
 
 use layout::MessageKind;
 use rules::{Desk, Refusal, Step, StepKind};
@@ -56,6 +58,7 @@ pub struct Answer {
 impl From<Result<Report, Refusal>> for Answer {
     ghost from_gives = { λ done answer. answer ≡ answer_of done };
 
+    #[tactic(auto, unfolding(crate::specs::Answer::answer_of))]
     fn from(done: Result<Report, Refusal>) -> Self {
         match done {
             Ok(report) => Answer { number: 0, report },
@@ -68,6 +71,7 @@ impl From<Result<Report, Refusal>> for Answer {
 }
 
 // Done: the event, and the relay or the desk that it is about.
+#[tactic(auto, unfolding(crate::specs::Answer::report_of, state::specs::Meaning::event_of))]
 fn tells(event: Event, who: u8) -> Report
     ensures { report_of result ≡ steps.reports (event_of event) who }
 {
@@ -187,6 +191,7 @@ struct About {
     new: u16,
 }
 
+#[tactic(auto, unfolding(state::specs::Meaning::body_of, layout::specs::Image::body_in))]
 fn about_of(b: Body) -> About
     ensures { (result.generator ≡ generator_of_body (body_of b)) × (move result.old result.new ≡ move_of_body (body_of b)) }
 {
@@ -282,15 +287,21 @@ fn crash(w: &mut [u8], who: u8) -> Result<Report, Refusal>
 
 // ---- one step
 
-// A step of a good world.
-fn step_good(w: &mut [u8], k: Step) -> Result<Report, Refusal>
-    requires { good_bytes w.old ≡ true }
+// "A value other than 0 belongs to WRITE only."
+fn is_stray(kind: StepKind, value: u32) -> bool
+    ensures stray { result ≡ true → (kind ≢ Write) × (value ≢ 0) }
+    ensures allowed { result ≡ false → kind ≢ Write → value ≡ 0 }
+{
+    kind != StepKind::Write && value != 0
+}
+
+// What a step of this kind does to a good world.
+fn acts(w: &mut [u8], kind: StepKind, k: Step) -> Result<Report, Refusal>
+    requires good { good_bytes w.old ≡ true }
+    requires kind { k.kind ≡ kind_number kind }
+    requires value { kind ≢ Write → k.value ≡ 0 }
     ensures { done_of result w.new ≡ lent.lent_step w.old k }
 {
-    let kind = StepKind::try_from(k.kind)?;
-    if kind != StepKind::Write && k.value != 0 {
-        return Err(Refusal::BadStep);
-    }
     match kind {
         StepKind::Join => relay_acts(w, k.id, relay::join_asked),
         StepKind::Leave => relay_acts(w, k.id, relay::leave_asked),
@@ -301,6 +312,18 @@ fn step_good(w: &mut [u8], k: Step) -> Result<Report, Refusal>
         StepKind::Drop => drops(w, k.id),
         StepKind::Crash => crash(w, k.id),
     }
+}
+
+// A step of a good world.
+fn step_good(w: &mut [u8], k: Step) -> Result<Report, Refusal>
+    requires { good_bytes w.old ≡ true }
+    ensures { done_of result w.new ≡ lent.lent_step w.old k }
+{
+    let kind = StepKind::try_from(k.kind)?;
+    if is_stray(kind, k.value) {
+        return Err(Refusal::BadStep);
+    }
+    acts(w, kind, k)
 }
 
 // BAD WORLD: "world not good".

@@ -3,8 +3,10 @@ use mathlib.Core.Bool.{true, false}
 use mathlib.Core.List.{List}
 use mathlib.Core.Path.{◌≡◌, refl, sym, ◌∙◌}
 use Prim.Native.Nat.{ℕ, ◌<◌}
+use borrow.Author.Rules.{rules}
 use borrow.Author.Tests.{not-true, not-false}
-use Rattle.rules.specs.Messages.{dead}
+use Rattle.rules.specs.Messages.{empty, dead}
+use Rattle.rules.specs.declared.Refusal.TheVariants.{Empty, Dead}
 use Rattle.rules.specs.State.{waiting, place_at}
 use Rattle.rules.specs.Steps.{alive_in, acts, freed, delivers}
 use Rattle.rules.specs.Steps as steps
@@ -16,7 +18,8 @@ use Rattle.state.specs.declared.Message.{Message}
 use Rattle.image.specs.Parts.{message_row_at}
 use Rattle.world.specs.Commits.{free_row}
 use Rattle.image.proofs.Meaning.{message-read}
-use Rattle.world.proofs.Routes.{place-holds, held_good, held-dead, held-alive, to_below}
+use Rattle.world.proofs.Commit.{refused_kept}
+use Rattle.world.proofs.Routes.{deliver_empty, place-holds, held_good, held-dead, held-alive, to_below}
 use Rattle.world.proofs.deliver.Goals as goal
 
 -- the message of a place that is not free, as it is read
@@ -38,34 +41,40 @@ module _ (b : List ℕ) (good : good_bytes b ≡ true) (p : ℕ) (place : p < 25
   unfolding message_of
   heard e = held-alive b good p place (message_of m) held e
 
+pub returns-then-is_free : goal.returns-then-is_free
+returns-then-is_free c =
+    let small : c.args.p < 256 = search rules in
+    refused_kept Empty empty c.args.w.now refl ∙ deliver_empty c.args.w.now c.requires c.args.p small (sym c.is_free.ensures ∙ c.if-is_free.true)
+
 pub alive_at-requires : goal.alive_at-requires
-alive_at-requires c = below c.args.w.now c.requires.0 c.args.p c.requires.1.0 c.requires.1.1 _ c.message_at-m.ensures
+alive_at-requires c =
+    below c.args.w.now c.requires c.args.p (search rules) (sym c.is_free.ensures ∙ c.if-is_free.false) _ c.message_at-m.ensures
 
 pub returns-then-not-alive_at : goal.returns-then-not-alive_at
 returns-then-not-alive_at c =
-    c.refuses.ensures dead c.args.w.now refl
-    ∙ unheard c.args.w.now c.requires.0 c.args.p c.requires.1.0 c.requires.1.1 _ c.message_at-m.ensures
+    refused_kept Dead dead c.args.w.now refl
+    ∙ unheard c.args.w.now c.requires c.args.p (search rules) (sym c.is_free.ensures ∙ c.if-is_free.false) _ c.message_at-m.ensures
     (sym c.alive_at.ensures ∙ not-true _ c.if-not-alive_at.true-raw)
 
 pub to_relay-requires : goal.to_relay-requires
 to_relay-requires c =
-    let is = held c.args.w.now c.requires.0 c.args.p c.requires.1.0 c.requires.1.1 _ c.message_at-m.ensures in
-    (c.requires.0, (c.requires.1.0, (is, c.if-m-lt8.true)))
+    let is = held c.args.w.now c.requires c.args.p (search rules) (sym c.is_free.ensures ∙ c.if-is_free.false) _ c.message_at-m.ensures in
+    (c.requires, (is, c.if-m-lt-FIRST_DESK.true))
 
-pub returns-then-m-lt8 : goal.returns-then-m-lt8
-returns-then-m-lt8 c =
+pub returns-then-m-lt-FIRST_DESK : goal.returns-then-m-lt-FIRST_DESK
+returns-then-m-lt-FIRST_DESK c =
     c.to_relay.ensures
-    ∙ heard c.args.w.now c.requires.0 c.args.p c.requires.1.0 c.requires.1.1 _ c.message_at-m.ensures
+    ∙ heard c.args.w.now c.requires c.args.p (search rules) (sym c.is_free.ensures ∙ c.if-is_free.false) _ c.message_at-m.ensures
     (sym c.alive_at.ensures ∙ not-false _ c.if-not-alive_at.false-raw)
 
 pub to_desk-requires : goal.to_desk-requires
 to_desk-requires c =
-    let is = held c.args.w.now c.requires.0 c.args.p c.requires.1.0 c.requires.1.1 _ c.message_at-m.ensures in
-    let low = below c.args.w.now c.requires.0 c.args.p c.requires.1.0 c.requires.1.1 _ c.message_at-m.ensures in
-    (c.requires.0, (c.requires.1.0, (is, (c.if-m-lt8.false, low))))
+    let is = held c.args.w.now c.requires c.args.p (search rules) (sym c.is_free.ensures ∙ c.if-is_free.false) _ c.message_at-m.ensures in
+    let low = below c.args.w.now c.requires c.args.p (search rules) (sym c.is_free.ensures ∙ c.if-is_free.false) _ c.message_at-m.ensures in
+    (c.requires, (is, (c.if-m-lt-FIRST_DESK.false, low)))
 
 pub returns : goal.returns
 returns c =
     c.to_desk.ensures
-    ∙ heard c.args.w.now c.requires.0 c.args.p c.requires.1.0 c.requires.1.1 _ c.message_at-m.ensures
+    ∙ heard c.args.w.now c.requires c.args.p (search rules) (sym c.is_free.ensures ∙ c.if-is_free.false) _ c.message_at-m.ensures
     (sym c.alive_at.ensures ∙ not-false _ c.if-not-alive_at.false-raw)

@@ -1,5 +1,6 @@
 -- `world::to_relay` meets its contract. Assumes nothing.
 use mathlib.Core.Path.{refl, ap, ◌∙◌}
+use borrow.Author.Rules.{rules}
 use Rattle.rules.specs.State.{no_relay, relay_at}
 use Rattle.rules.specs.Relays.{relay_hears}
 use Rattle.layout.specs.Image.{world_at}
@@ -13,12 +14,6 @@ use Rattle.world.proofs.Good.{good_relay_lem}
 use Rattle.world.proofs.Routes.{held-delivered, held_good, to_relay_left}
 use Rattle.world.proofs.to_relay.Goals as goal
 
-pub part_at-part-requires : goal.part_at-part-requires
-part_at-part-requires c = (c.requires.0, c.requires.1.1.1)
-
-pub relay_commits-requires : goal.relay_commits-requires
-relay_commits-requires c = (c.requires.0, c.requires.1.1.1)
-
 pub returns : goal.returns
 unfolding message_of
 returns c =
@@ -28,10 +23,10 @@ returns c =
     let shown = narrow r (generator_of_body x) (move_of_body x) in
     let ask = relay_hears c.args.m.to shown c.args.m.from x in
     c.relay_commits.ensures 1 ask
-    (c.hears-plan.ensures
+    (c.hears.ensures
     ∙ ap (planned no_relay)
     (rw (c.part_at-part.ensures, c.about_of-about.ensures.0, c.about_of-about.ensures.1)
     (hears_fits c.args.m.to r m x (good_relay_lem c.args.w.now c.requires.0 c.args.m.to) refl
-    (held_good c.args.w.now c.requires.0 c.args.p c.requires.1.0 m c.requires.1.1.0))))
-    (hears_few c.args.m.to shown c.args.m.from x) (held-delivered c.args.w.now c.requires.0 c.args.p c.requires.1.0 m c.requires.1.1.0)
-    ∙ to_relay_left c.args.w.now c.requires.0 c.args.p c.requires.1.0 m c.requires.1.1.1 ask (hears_wide c.args.m.to r c.args.m.from x)
+    (held_good c.args.w.now c.requires.0 c.args.p (search rules) m c.requires.1.0))))
+    (hears_few c.args.m.to shown c.args.m.from x) (held-delivered c.args.w.now c.requires.0 c.args.p (search rules) m c.requires.1.0)
+    ∙ to_relay_left c.args.w.now c.requires.0 c.args.p (search rules) m c.requires.1.1 ask (hears_wide c.args.m.to r c.args.m.from x)
