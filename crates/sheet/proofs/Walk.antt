@@ -3,6 +3,7 @@
 use Rattle.std.specs.Prelude.{if◌then◌else◌, Option, None, Some, Ok, Err}
 use Rattle.std.specs.Option.{MatchOption, option_map}
 use Rattle.std.specs.Iterator.{YieldsFirst, MakesProgress, item_count}
+use denote.Ref.{Bor}
 use mathlib.Core.Path.{◌≡◌, refl, sym, ap, ◌∙◌}
 use mathlib.Core.Bool.{Bool, true, false}
 use mathlib.Core.List.{List, [], ◌∷◌}
@@ -134,6 +135,10 @@ module _ (b : List ℕ) (at : ℕ) where
 module _ (s : Reader) (r : Option Step) (at : ℕ) (e : r ≡ step_at s.sheet.now s.at) (f : at ≡ after_of s.sheet.now s.at) where
   pub first_left : YieldsFirst steps_left s r (record { sheet = s.sheet; at = at })
   first_left = rw (e, f) (first_step s.sheet.now s.at)
+
+-- one that is made at the front of some bytes has all their steps left
+pub all_left : (s : Reader) (b : Bor (List ℕ)) → s.sheet ≡ b → s.at ≡ front_of b.now → steps_left s ≡ steps_from b.now (front_of b.now)
+all_left s b e f = rw (e, f)
 
 -- so that they come to an end
 pub fewer_left : (s t : Reader) (r : Option Step) → YieldsFirst steps_left s r t → MakesProgress (λ (_ : Reader). Unit {0}) (item_count steps_left) s r t

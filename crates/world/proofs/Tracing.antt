@@ -1,24 +1,29 @@
 -- A run, step by step: what the rows and the world are after each of its steps, and at its end. Assumes nothing.
-use Rattle.std.specs.Prelude.{if◌then◌else◌}
+use Rattle.std.specs.Prelude.{if◌then◌else◌, Result, Ok, Err}
 use mathlib.Core.Path.{◌≡◌, refl, sym, ap, ◌∙◌}
 use mathlib.Core.Bool.{Bool, true, false}
 use mathlib.Core.List.{List, [], ◌∷◌, ◌++◌, append_assoc, append-nil}
 use Prim.Native.Nat.{ℕ, zero, suc, ◌+◌, ◌%◌, ◌≤◌, ◌<◌}
 use native.Mathlib.Nat.{add-zero, zero-add, add_assoc}
 use native.Mathlib.Omega.{arith}
+use mir.Syntax.{w8}
+use mir.Val.{Fits}
 use lib.Dec.{ltb}
 use lib.ListN.{length, get_or, take, drop, length-append}
 use borrow.Author.Tests.{eq-eqb, ne_eqb, lt-leb, lt-ltb, le-ltb}
-use Rattle.rows.specs.Bytes.{splice, placed, bytes_of, fields_of, sum}
+use Rattle.rows.specs.Bytes.{splice, placed, bytes_of, field_bytes, fields_of, cat}
 use Rattle.rows.proofs.Laws.{placed_fits, placed_nil, Holds, holds-left, holds_right, holds-byte, Put, put_first, put_then}
-use Rattle.rows.proofs.Numbers.{length-bytes_of, fields-length, holds_u16, holds_u32}
+use Rattle.rows.specs.declared.Field.TheVariants.{Byte, U16, U32}
+use Rattle.rows.proofs.Numbers.{byte-number, holds_u16, holds_u32}
 use Rattle.rules.specs.Messages.{Event, nothing, opened, read_done, write_done}
 use Rattle.rules.specs.State.{World, start}
+use Rattle.rules.specs.declared.Refusal.{Refusal}
+use Rattle.rules.specs.declared.Refusal.TheVariants.{BadWorld, NoRoom, BadSheet}
 use Rattle.rules.specs.declared.Step.{Step}
 use Rattle.rules.specs.Sending.{waiting_in}
 use Rattle.rules.specs.Steps.{Outcome, refusal, done, after, report, stepped}
 use Rattle.rules.specs.WellFormed.{well_formed}
-use Rattle.rules.specs.Sheets.{Sheet, bad, sheet, sheet_in, is_bad_sheet, steps_in, steps_of, form_in}
+use Rattle.rules.specs.Sheets.{Sheet, bad, sheet, sheet_in, is_bad_sheet, mask_in, steps_in, steps_of, form_in}
 use Rattle.rules.specs.Runs.{outcomes, last_world, answer, fields}
 use Rattle.rules.proofs.Sends.{EventWell}
 use Rattle.rules.proofs.Counts.{places-all}
@@ -34,11 +39,10 @@ use Rattle.sheet.specs.declared.Sheet as checked
 use Rattle.sheet.specs.Reading.{check_of, read_of, steps_from}
 use Rattle.sheet.proofs.Walk.{check_reads, accepted, count, sound, front as read-front}
 use Rattle.world.specs.declared.Answer.{Answer}
-use Rattle.world.specs.declared.run.Traced.{Traced}
 use Rattle.world.specs.Answer.{report_of, lent_of, columns}
 use Rattle.world.specs.Commits.{free_rows}
 use Rattle.world.specs.Tracing.{waiting_rows, trace_row_width, columns_bytes, columns_at, trace_row, trace_rows, Stepped, Ruling, bad_world, bad_sheet, no_room, runs}
-use Rattle.world.specs.Tracing.{room_for, ruling, number_by, world_by, traces_wide, traced, steps_by, trace_by, trace_answer, trace_world, trace_left}
+use Rattle.world.specs.Tracing.{room_for, ruling, refused_by, refused_or, world_by, traces_wide, traced, steps_by, trace_by, trace_answer, trace_world, trace_left}
 use Rattle.world.proofs.Places.{free_rows_lem}
 
 -- ---- what waits
@@ -51,29 +55,32 @@ waiting_rows_lem W w formed e =
 -- ---- rows
 
 pub row_long : (o : Outcome) → length (trace_row o) ≡ trace_row_width
-unfolding trace_row
-row_long o = fields-length _ _
+unfolding trace_row bytes_of cat
+row_long o = refl
 
 pub rows_long : (W : World) (ks : List Step) → length (trace_rows (outcomes W ks)) ≡ traces_wide (length ks)
 unfolding trace_rows outcomes
 rows_long W [] = refl
 rows_long W (k ∷ ks) = simp length-append (omega (arith, row_long (stepped W k), rows_long (after W (stepped W k)) ks))
 
--- a row is its columns, read back: the i-th of fields stands where those before it end
-fields_at : (ws xs l : List ℕ) (o i : ℕ) → i < length ws → Holds l o (fields_of ws xs) → Holds l (o + sum (take i ws)) (bytes_of (get_or ws i 0) (get_or xs i 0))
-unfolding fields_of
-fields_at [] xs l o i h k = absurd (omega arith)
-fields_at (w ∷ ws) xs l o zero h k = rw (add-zero o) (holds-left l (bytes_of w (get_or xs 0 0)) (fields_of ws (drop 1 xs)) o k)
-fields_at (w ∷ ws) [] l o (suc i) h k =
-    rw (← add_assoc o w (sum (take i ws)))
-    (fields_at ws [] l (o + w) i (omega arith) (holds_right l (bytes_of w 0) (fields_of ws []) o w (length-bytes_of w 0) k))
-fields_at (w ∷ ws) (x ∷ xs) l o (suc i) h k =
-    rw (← add_assoc o w (sum (take i ws)))
-    (fields_at ws xs l (o + w) i (omega arith) (holds_right l (bytes_of w x) (fields_of ws xs) o w (length-bytes_of w x) k))
+-- a row is its columns, read back: the i-th of pieces stands where those before it end
+piece_at : (ps : List (List ℕ)) (l : List ℕ) (o i : ℕ) → i < length ps → Holds l o (cat ps) → Holds l (o + length (cat (take i ps))) (get_or ps i [])
+unfolding cat
+piece_at [] l o i h k = absurd (omega arith)
+piece_at (p ∷ ps) l o zero h k = rw (add-zero o) (holds-left l p (cat ps) o k)
+piece_at (p ∷ ps) l o (suc i) h k =
+    rw (length-append p (cat (take i ps)), ← add_assoc o (length p) (length (cat (take i ps))))
+    (piece_at ps l (o + length p) i (omega arith) (holds_right l p (cat ps) o (length p) refl k))
 
 byte_at : (l : List ℕ) (o x : ℕ) → x < 256 → Holds l o (bytes_of 1 x) → get_or l o 0 ≡ x
 unfolding bytes_of
 byte_at l o x small h = let e : x % 256 ≡ x = omega arith in holds-byte l o (x % 256) [] h ∙ e
+
+-- a row of numbers that fit, as the code lays it
+pub row_fields : (a e w c d x : ℕ) → Fits w8 a → Fits w8 e → Fits w8 w → Fits w8 d
+    → fields_of (Byte a ∷ Byte e ∷ Byte w ∷ U16 c ∷ Byte d ∷ U32 x ∷ []) ≡ columns_bytes (a ∷ e ∷ w ∷ c ∷ d ∷ x ∷ [])
+unfolding fields_of field_bytes cat
+row_fields a e w c d x fa fe fw fd = rw (byte-number fa, byte-number fe, byte-number fw, byte-number fd)
 
 -- each column is in the range of its width
 pub record ColumnsFit (xs : List ℕ) : Type 0 where
@@ -86,9 +93,13 @@ pub record ColumnsFit (xs : List ℕ) : Type 0 where
 
 columns_back : (l : List ℕ) (o : ℕ) (xs : List ℕ) → ColumnsFit xs → Holds l o (columns_bytes xs)
     → columns_at l o ≡ get_or xs 0 0 ∷ get_or xs 1 0 ∷ get_or xs 2 0 ∷ get_or xs 3 0 ∷ get_or xs 4 0 ∷ get_or xs 5 0 ∷ []
-unfolding columns_at
+unfolding columns_at bytes_of cat
 columns_back l o xs f h =
-    let at : (i : ℕ) → i < 6 → Holds l _ _ = λ i k. fields_at (1 ∷ 1 ∷ 1 ∷ 2 ∷ 1 ∷ 4 ∷ []) xs l o i k h in
+    let pieces : List (List ℕ) =
+    bytes_of 1 (get_or xs 0 0) ∷ bytes_of 1 (get_or xs 1 0) ∷ bytes_of 1 (get_or xs 2 0) ∷ bytes_of 2 (get_or xs 3 0) ∷ bytes_of 1 (get_or xs 4 0)
+    ∷ bytes_of 4 (get_or xs 5 0)
+    ∷ [] in
+    let at : (i : ℕ) → i < 6 → Holds l _ _ = λ i k. piece_at pieces l o i k h in
     rw (
       byte_at l (o + 0) (get_or xs 0 0) f.answer (at 0 (omega arith)),
       byte_at l (o + 1) (get_or xs 1 0) f.event (at 1 (omega arith)),
@@ -236,32 +247,42 @@ module _ (b : List ℕ) (mask : ℕ) (good : is_bad_sheet b ≡ false) (m : mask
 
 -- ---- what the check of a sheet says
 
-module _ (b : List ℕ) (s : checked.Sheet) (e : s ≡ check_of b) where
-  found_bad : s.bad ≡ true → sheet_in b ≡ bad
-  unfolding read_of
-  found_bad t = sym (rw t at (ap (λ (x : checked.Sheet). read_of x b) e ∙ check_reads b))
+pub found_bad : (b : List ℕ) (x : Refusal) → check_of b ≡ Err x → (sheet_in b ≡ bad) × (x ≡ BadSheet)
+unfolding check_of read_of
+found_bad b x e = go (is_bad_sheet b) refl
+  where
+    go : (t : Bool) → is_bad_sheet b ≡ t → (sheet_in b ≡ bad) × (x ≡ BadSheet)
+    go true f =
+        let is : Err x ≡ Err BadSheet = sym e ∙ rw f in
+        (sym (check_reads b) ∙ ap (λ (r : Result checked.Sheet Refusal). read_of r b) e, cc)
+    go false f =
+        let is : ◌≡◌ {A = Result checked.Sheet Refusal} (Ok (record { mask = mask_in b; steps = steps_of b })) (Err x) = sym (rw f) ∙ e in
+        let z : ◌≡◌ {A = ℕ} 0 1 = cc in
+        absurd (omega arith)
 
-  found_good : s.bad ≡ false → sheet_in b ≡ sheet s.mask (steps_from b 6)
+module _ (b : List ℕ) (s : checked.Sheet) (e : check_of b ≡ Ok s) where
+  found_good : sheet_in b ≡ sheet s.mask (steps_from b 6)
   unfolding read_of
-  found_good t =
+  found_good =
       let ks : List Step = steps_in (form_in b) s.steps (drop 6 b) in
-      let read : sheet_in b ≡ sheet s.mask ks = sym (rw t at (ap (λ (x : checked.Sheet). read_of x b) e ∙ check_reads b)) in
+      let read : sheet_in b ≡ sheet s.mask ks = sym (check_reads b) ∙ ap (λ (r : Result checked.Sheet Refusal). read_of r b) e in
       read ∙ ap (sheet s.mask) (sym (read-front b s.mask ks (accepted b s.mask ks read)))
 
-  pub found_facts : s.bad ≡ false → (is_bad_sheet b ≡ false) × (s.mask ≡ get_or b 5 0)
-  found_facts t =
-      let a = accepted b s.mask (steps_from b 6) (found_good t) in
+  pub found_facts : (is_bad_sheet b ≡ false) × (s.mask ≡ get_or b 5 0)
+  found_facts =
+      let a = accepted b s.mask (steps_from b 6) found_good in
       (a.good, sym a.masked)
 
-  pub steps_long : s.bad ≡ false → length (steps_from b 6) ≡ s.steps
+  pub steps_long : length (steps_from b 6) ≡ s.steps
   unfolding check_of
-  steps_long t =
-      let a = accepted b s.mask (steps_from b 6) (found_good t) in
-      let steps : s.steps ≡ steps_of b = rw a.good at (ap (λ (x : checked.Sheet). x.steps) e) in
-      sym (count b s.mask (steps_from b 6) a) ∙ sym steps
+  steps_long =
+      let a = accepted b s.mask (steps_from b 6) found_good in
+      let is : ◌≡◌ {A = Result checked.Sheet Refusal} (Ok (record { mask = mask_in b; steps = steps_of b })) (Ok s) = rw a.good at e in
+      let steps : record { mask = mask_in b; steps = steps_of b } ≡ s = cc in
+      sym (count b s.mask (steps_from b 6) a) ∙ ap (λ (x : checked.Sheet). x.steps) steps
 
-  pub few_found : s.bad ≡ false → s.steps ≤ 8000
-  few_found t = omega (arith, steps_long t, shown_few b (found_facts t).0)
+  pub few_found : s.steps ≤ 8000
+  few_found = omega (arith, steps_long, shown_few b found_facts.0)
 
 -- ---- what is ruled, by what n steps may need
 
@@ -269,21 +290,21 @@ module _ (needed : ℕ → ℕ) (b w out : List ℕ) where
   pub ruling_misfit : (length w ≡ world_width → ⊥) → ruling needed b w out ≡ bad_world
   ruling_misfit h = rw (ne_eqb (length w) world_width h)
 
-  module _ (long : length w ≡ world_width) (s : checked.Sheet) (e : s ≡ check_of b) where
+  module _ (long : length w ≡ world_width) where
     ruling_by : (x : Sheet) → sheet_in b ≡ x → ruling needed b w out ≡ room_for needed (length out) x
     ruling_by x f = rw (eq-eqb (length w) world_width long, f)
 
-    pub ruling-bad : s.bad ≡ true → ruling needed b w out ≡ bad_sheet
-    ruling-bad t = ruling_by bad (found_bad b s e t)
+    pub ruling-bad : (x : Refusal) → check_of b ≡ Err x → ruling needed b w out ≡ bad_sheet
+    ruling-bad x e = ruling_by bad (found_bad b x e).0
 
-    module _ (t : s.bad ≡ false) where
+    module _ (s : checked.Sheet) (e : check_of b ≡ Ok s) where
       abbrev ks : List Step
       ks = steps_from b 6
 
       ruling_good : (x : Bool) → ltb (length out) (needed s.steps) ≡ x → ruling needed b w out ≡ (if x then no_room else runs s.mask ks)
       ruling_good x f =
-          ruling_by (sheet s.mask ks) (found_good b s e t)
-          ∙ ap (λ (y : Bool). if y then no_room else runs s.mask ks) (ap (λ (n : ℕ). ltb (length out) (needed n)) (steps_long b s e t) ∙ f)
+          ruling_by (sheet s.mask ks) (found_good b s e)
+          ∙ ap (λ (y : Bool). if y then no_room else runs s.mask ks) (ap (λ (n : ℕ). ltb (length out) (needed n)) (steps_long b s e) ∙ f)
 
       pub ruling-full : length out < needed s.steps → ruling needed b w out ≡ no_room
       ruling-full l = ruling_good true (lt-ltb (length out) (needed s.steps) l)
@@ -299,34 +320,36 @@ front n l b e h = placed_fits l b 0 (omega (arith, e)) ∙ rw (e, zero-add)
 
 -- ---- what is answered and left
 
-module _ (b w rows : List ℕ) where
-  abbrev Left : Traced → List ℕ → List ℕ → Type 0
-  Left r w' rows' = (r ≡ trace_answer b w rows) × ((w' ≡ trace_world b w rows) × (rows' ≡ trace_left b w rows))
+module _ (b w l : List ℕ) where
+  pub record Left (r : Result ℕ Refusal) (w' rows' : List ℕ) : Type 0 where
+    pub answer : r ≡ trace_answer b w l
+    pub last : w' ≡ trace_world b w l
+    pub rows : rows' ≡ trace_left b w l
 
   -- what comes of the ruling comes of the call
-  left_by : (x : Ruling) → ruling traces_wide b w rows ≡ x → (w' rows' : List ℕ) → w' ≡ world_by w x → rows' ≡ trace_by x ++ drop (length (trace_by x)) rows
-      → Left (record { answer = number_by x; steps = steps_by x }) w' rows'
+  left_by : (x : Ruling) → ruling traces_wide b w l ≡ x → (w' rows' : List ℕ) → w' ≡ world_by w x → rows' ≡ trace_by x ++ drop (length (trace_by x)) l
+      → Left (refused_or (steps_by x) (refused_by x)) w' rows'
   unfolding trace_answer trace_world trace_left traced
-  left_by x e w' rows' f g = (rw e, (rw e f, rw e g))
+  left_by x e w' rows' f g = record { answer = rw e; last = rw e f; rows = rw e g }
 
-  pub misfit : (length w ≡ world_width → ⊥) → Left (record { answer = 1; steps = 0 }) w rows
-  misfit h = left_by bad_world (ruling_misfit traces_wide b w rows h) w rows refl refl
+  pub misfit : (length w ≡ world_width → ⊥) → Left (Err BadWorld) w l
+  misfit h = left_by bad_world (ruling_misfit traces_wide b w l h) w l refl refl
 
-  module _ (long : length w ≡ world_width) (s : checked.Sheet) (e : s ≡ check_of b) where
-    pub left-bad : s.bad ≡ true → Left (record { answer = 9; steps = 0 }) w rows
-    left-bad t = left_by bad_sheet (ruling-bad traces_wide b w rows long s e t) w rows refl refl
+  module _ (long : length w ≡ world_width) where
+    pub left-bad : (x : Refusal) → check_of b ≡ Err x → Left (Err x) w l
+    left-bad x e = rw (found_bad b x e).1 (left_by bad_sheet (ruling-bad traces_wide b w l long x e) w l refl refl)
 
-    module _ (t : s.bad ≡ false) where
-      pub left-full : length rows < traces_wide s.steps → Left (record { answer = 8; steps = 0 }) w rows
-      left-full l = left_by no_room (ruling-full traces_wide b w rows long s e t l) w rows refl refl
+    module _ (s : checked.Sheet) (e : check_of b ≡ Ok s) where
+      pub left-full : length l < traces_wide s.steps → Left (Err NoRoom) w l
+      left-full h = left_by no_room (ruling-full traces_wide b w l long s e h) w l refl refl
 
-      pub left_good : traces_wide s.steps ≤ length rows → (v w' rows' : List ℕ) → world_at v ≡ start s.mask
-          → (w' ≡ image (last_world (world_at v) (steps_from b 6))) × (rows' ≡ placed rows 0 (trace_rows (outcomes (world_at v) (steps_from b 6))))
-          → Left (record { answer = 0; steps = s.steps }) w' rows'
-      left_good l v w' rows' is h =
+      pub left_good : traces_wide s.steps ≤ length l → (v w' rows' : List ℕ) → world_at v ≡ start s.mask
+          → w' ≡ image (last_world (world_at v) (steps_from b 6)) → rows' ≡ placed l 0 (trace_rows (outcomes (world_at v) (steps_from b 6)))
+          → Left (Ok s.steps) w' rows'
+      left_good h v w' rows' is last laid =
           let ks : List Step = steps_from b 6 in
           let all : List ℕ = trace_rows (outcomes (start s.mask) ks) in
-          let many : length all ≡ traces_wide s.steps = rows_long (start s.mask) ks ∙ ap traces_wide (steps_long b s e t) in
-          let laid : placed rows 0 all ≡ all ++ drop (length all) rows = front (length all) rows all refl (omega (arith, many, l)) in
-          rw (steps_long b s e t) at
-          (left_by (runs s.mask ks) (ruling-runs traces_wide b w rows long s e t l) w' rows' (rw is at h.0) (rw is at h.1 ∙ laid))
+          let many : length all ≡ traces_wide s.steps = rows_long (start s.mask) ks ∙ ap traces_wide (steps_long b s e) in
+          let put : placed l 0 all ≡ all ++ drop (length all) l = front (length all) l all refl (omega (arith, many, h)) in
+          rw (steps_long b s e) at
+          (left_by (runs s.mask ks) (ruling-runs traces_wide b w l long s e h) w' rows' (rw is at last) (rw is at laid ∙ put))

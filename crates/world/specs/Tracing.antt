@@ -1,9 +1,11 @@
 -- What a run leaves in the lent buffers: of one step, and of a whole sheet. Assumes nothing.
-use Rattle.std.specs.Prelude.{◌≡◌, List, [], ◌∷◌, ◌++◌, ℕ, ◌+◌, ◌*◌, ◌-◌, eqb, ltb, length, get_or, drop, if◌then◌else◌}
-use Rattle.rows.specs.Bytes.{placed, fields_of, u16_at, u32_at}
+use Rattle.std.specs.Prelude.{◌≡◌, List, [], ◌∷◌, ◌++◌, Option, None, Some, Result, Ok, Err, ℕ, ◌+◌, ◌*◌, ◌-◌, eqb, ltb, length, get_or, drop, if◌then◌else◌}
+use Rattle.rows.specs.Bytes.{placed, bytes_of, cat, u16_at, u32_at}
 use Rattle.rules.specs.Sets.{place_count}
 use Rattle.rules.specs.Messages as table
 use Rattle.rules.specs.State.{World, start}
+use Rattle.rules.specs.declared.Refusal.{Refusal}
+use Rattle.rules.specs.declared.Refusal.TheVariants.{BadWorld, NoRoom, BadSheet}
 use Rattle.rules.specs.declared.Step.{Step}
 use Rattle.rules.specs.Steps.{Outcome, after, report, stepped}
 use Rattle.rules.specs.Sheets as sheets
@@ -12,7 +14,6 @@ use Rattle.rules.specs.Runs.{outcomes, last_world, answer, fields}
 use Rattle.layout.specs.Layout.{byte_width, u16_width, u32_width, world_width}
 use Rattle.layout.specs.Image.{image}
 use Rattle.world.specs.declared.run.Columns.{Columns}
-use Rattle.world.specs.declared.run.Traced.{Traced}
 use Rattle.world.specs.Commits.{free_rows}
 
 -- how many places hold a message, whatever else the bytes are: those that are not free
@@ -49,7 +50,15 @@ trace_row_width = last_column + u32_width
 
 -- the columns in these widths, one after another, high byte first
 abbrev pub columns_bytes : List ℕ → List ℕ
-columns_bytes = fields_of (byte_width ∷ byte_width ∷ byte_width ∷ u16_width ∷ byte_width ∷ u32_width ∷ [])
+columns_bytes xs =
+    cat (
+    bytes_of byte_width (get_or xs 0 0)
+    ∷ bytes_of byte_width (get_or xs 1 0)
+    ∷ bytes_of byte_width (get_or xs 2 0)
+    ∷ bytes_of u16_width (get_or xs 3 0)
+    ∷ bytes_of byte_width (get_or xs 4 0)
+    ∷ bytes_of u32_width (get_or xs 5 0)
+    ∷ [])
 
 -- the columns of the row at o
 unfoldable pub columns_at : List ℕ → ℕ → List ℕ
@@ -90,6 +99,13 @@ room_for needed room (sheet mask ks) = if ltb room (needed (length ks)) then no_
 abbrev pub ruling : (ℕ → ℕ) → List ℕ → List ℕ → List ℕ → Ruling
 ruling needed b w out = if eqb (length w) world_width then room_for needed (length out) (sheet_in b) else bad_world
 
+-- the refusal, if it is one
+abbrev pub refused_by : Ruling → Option Refusal
+refused_by bad_world = Some BadWorld
+refused_by bad_sheet = Some BadSheet
+refused_by no_room = Some NoRoom
+refused_by (runs mask ks) = None
+
 -- document 01's numbers
 abbrev pub number_by : Ruling → ℕ
 number_by bad_world = table.number table.bad_world
@@ -112,6 +128,10 @@ traces_wide n = n * trace_row_width
 unfoldable pub traced : List ℕ → List ℕ → List ℕ → Ruling
 traced b w rows = ruling traces_wide b w rows
 
+abbrev pub refused_or : ℕ → Option Refusal → Result ℕ Refusal
+refused_or n None = Ok n
+refused_or n (Some x) = Err x
+
 -- how many steps are run
 abbrev pub steps_by : Ruling → ℕ
 steps_by bad_world = 0
@@ -125,8 +145,9 @@ trace_by bad_sheet = []
 trace_by no_room = []
 trace_by (runs mask ks) = trace_rows (outcomes (start mask) ks)
 
-unfoldable pub trace_answer : List ℕ → List ℕ → List ℕ → Traced
-trace_answer b w rows = let x = traced b w rows in record { answer = number_by x; steps = steps_by x }
+-- the refusal, or how many steps are run
+unfoldable pub trace_answer : List ℕ → List ℕ → List ℕ → Result ℕ Refusal
+trace_answer b w rows = let x = traced b w rows in refused_or (steps_by x) (refused_by x)
 
 unfoldable pub trace_world : List ℕ → List ℕ → List ℕ → List ℕ
 trace_world b w rows = world_by w (traced b w rows)

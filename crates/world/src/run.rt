@@ -9,8 +9,8 @@ ghost use Rattle.world.specs.Answer.{report_of, columns};
 ghost use Rattle.world.specs.Tracing.{columns_of, trace_row_width, columns_bytes, trace_rows, Stepped, trace_answer, trace_world, trace_left};
 
 use super::{Answer, Report};
-use rules::Step;
-use sheet::Found;
+use rows::Field;
+use rules::{Refusal, Step};
 use stamps::Pair;
 
 // ---- columns
@@ -29,8 +29,8 @@ fn ended(event: u8, who: u8, pair: Pair) -> Columns
     ensures { columns_of result ≡ event ∷ who ∷ pair.stamp.count ∷ pair.stamp.desk ∷ pair.value ∷ [] }
 {
     Columns {
-        event: event,
-        who: who,
+        event,
+        who,
         count: pair.stamp.count,
         desk: pair.stamp.desk,
         last: pair.value,
@@ -40,8 +40,7 @@ fn ended(event: u8, who: u8, pair: Pair) -> Columns
 pub fn columns_of(a: Answer) -> Columns
     ensures { columns_of result ≡ fields (report_of a.report).event (report_of a.report).who }
 {
-    let report = a.report;
-    match report {
+    match a.report {
         Report::Nothing => Columns {
             event: 0,
             who: 0,
@@ -80,18 +79,16 @@ pub const TRACE_ROW: usize = TRACE_LAST + layout::U32_WIDTH;
 fn put_row(rows: &mut [u8], at: usize, a: Answer)
     ensures { rows.new ≡ placed rows.old at (columns_bytes (columns a)) }
 {
-    let answer = a.number;
     let c = columns_of(a);
-    let widths = [1u8, 1, 1, 2, 1, 4];
-    let xs = [
-        answer as u32,
-        c.event as u32,
-        c.who as u32,
-        c.count as u32,
-        c.desk as u32,
-        c.last,
+    let fields = [
+        Field::Byte(a.number),
+        Field::Byte(c.event),
+        Field::Byte(c.who),
+        Field::U16(c.count),
+        Field::Byte(c.desk),
+        Field::U32(c.last),
     ];
-    rows::put_fields(rows, at, &widths, &xs);
+    rows::put_fields(rows, at, &fields);
 }
 
 // ---- steps
@@ -113,59 +110,30 @@ fn turns(sheet: &[u8], w: &mut [u8], rows: &mut [u8])
     ensures rows { rows.new
         ≡ placed rows.old 0 (trace_rows (outcomes (world_at w.old) (steps_from sheet.now 6))) }
 {
-    let mut from = sheet::HEAD;
     let mut at = 0;
-    loop {
-        let taken = sheet::reader::read_at(sheet, from);
-        let found = taken.found;
-        let Found::At(k) = found else {
-            return;
-        };
-        turn(w, rows, at, k);
+    for step in sheet::reader::new(sheet) {
+        turn(w, rows, at, step);
         at += TRACE_ROW;
-        from = taken.at;
     }
 }
 
 // ---- the whole
 
-// The answer, and how many rows stand in the buffer for them.
-#[derive(Clone, Copy)]
-pub struct Traced {
-    pub answer: u8,
-    pub steps: usize,
-}
-
-// The trace of a sheet's run from the start of its mask, laid from the front of `rows`, and the last world. Whether there is room is decided before anything is
-// done.
-pub fn trace(sheet: &[u8], world: &mut [u8], rows: &mut [u8]) -> Traced
+// The trace of a sheet's run from the start of its mask, laid from the front of `rows`, and the last world; how many rows those are is answered. Whether there
+// is room is decided before anything is done.
+pub fn trace(sheet: &[u8], world: &mut [u8], rows: &mut [u8]) -> Result<usize, Refusal>
     ensures answer { result ≡ trace_answer sheet.now world.old rows.old }
     ensures last { world.new ≡ trace_world sheet.now world.old rows.old }
     ensures rows { rows.new ≡ trace_left sheet.now world.old rows.old }
 {
     if world.len() != layout::WORLD_WIDTH {
-        return Traced {
-            answer: rules::BAD_WORLD,
-            steps: 0,
-        };
+        return Err(Refusal::BadWorld);
     }
-    let s = sheet::check(sheet);
-    if s.bad {
-        return Traced {
-            answer: rules::BAD_SHEET,
-            steps: 0,
-        };
+    let found = sheet::check(sheet)?;
+    if rows.len() < found.steps * TRACE_ROW {
+        return Err(Refusal::NoRoom);
     }
-    if rows.len() < s.steps * TRACE_ROW {
-        return Traced {
-            answer: rules::NO_ROOM,
-            steps: 0,
-        };
-    }
-    super::start(world, s.mask);
+    super::start(world, found.mask);
     turns(sheet, world, rows);
-    Traced {
-        answer: 0,
-        steps: s.steps,
-    }
+    Ok(found.steps)
 }

@@ -2,13 +2,15 @@
 use mathlib.Core.Path.{ap, ◌∙◌}
 use mathlib.Core.List.{List, ◌∷◌}
 use Prim.Native.Nat.{ℕ}
+use borrow.Author.Rules.{rules}
 use Rattle.rows.specs.Bytes.{placed}
 use Rattle.world.specs.Answer.{columns}
 use Rattle.world.specs.Tracing.{columns_of, columns_bytes}
+use Rattle.world.proofs.Tracing.{row_fields}
 use Rattle.world.proofs.run.put_row.Goals as goal
 
 pub returns : goal.returns
 unfolding columns columns_of
 returns c =
-    c.put_fields.ensures
-    ∙ ap (λ (x : List ℕ). placed c.args.rows.now c.args.at (columns_bytes (c.args.a.number ∷ x))) c.columns_of-c.ensures
+    let put = placed c.args.rows.now c.args.at in
+    c.put_fields.ensures ∙ ap put (row_fields _ _ _ _ _ _ (search rules) (search rules) (search rules) (search rules)) ∙ ap (λ (x : List ℕ). put (columns_bytes (c.args.a.number ∷ x))) c.columns_of-c.ensures
