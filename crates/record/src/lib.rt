@@ -107,5 +107,5 @@ pub fn put_bad(out: &mut [u8]) -> usize
     ensures bytes { out.new ≡ laid out.old 0 bad_of }
 {
     let at = put_word(out, 0, b"bad ");
-    put_line(out, at, &[rules::BAD_SHEET as u32])
+    put_line(out, at, &[rules::Refusal::BadSheet as u32])
 }

@@ -1,5 +1,5 @@
 -- A record, line by line: what the lines and the counts are after each of a trace's rows, and at the end. Assumes nothing.
-use Rattle.std.specs.Prelude.{if◌then◌else◌}
+use Rattle.std.specs.Prelude.{if◌then◌else◌, None, Some, Ok, Err}
 use mathlib.Core.Path.{◌≡◌, refl, sym, ap, ◌∙◌}
 use mathlib.Core.Bool.{Bool, true, false, ◌&&◌}
 use mathlib.Core.List.{List, [], ◌∷◌, ◌++◌, append_assoc}
@@ -8,17 +8,18 @@ use native.Mathlib.Numerals.{add-one}
 use native.Mathlib.Omega.{arith}
 use lib.Dec.{eqb, ltb}
 use lib.ListN.{length, get_or, drop, length-append}
-use mir.Val.{bool_byte}
 use borrow.Author.Tests.{eq-eqb, lt-ltb, le-ltb}
 use Rattle.rows.specs.Bytes.{u16_at, u32_at}
 use Rattle.rows.proofs.Laws.{Holds, holds-left, holds_right}
 use Rattle.views.proofs.Truth.{cases}
 use Rattle.rules.specs.State.{World, start}
+use Rattle.rules.specs.declared.Refusal.{Refusal}
+use Rattle.rules.specs.declared.Refusal.TheVariants.{BadWorld, NoRoom, BadSheet}
 use Rattle.rules.specs.declared.Step.{Step}
 use Rattle.rules.specs.Sending.{waiting_in}
 use Rattle.rules.specs.Steps.{Outcome, after, stepped}
 use Rattle.rules.specs.WellFormed.{well_formed}
-use Rattle.rules.specs.Sheets.{Sheet, bad, sheet, sheet_in, is_bad_sheet}
+use Rattle.rules.specs.Sheets.{Sheet, bad, sheet, sheet_in, is_bad_sheet, mask_in, steps_of}
 use Rattle.rules.specs.Runs.{outcomes, last_world, sum, delivered_by, dropped_by, answer, digits, line, step_line, step_lines, longest, printed, start_of, end_of}
 use Rattle.rules.specs.Runs.{bad_of, rehearsal, rehearsed}
 use Rattle.rules.proofs.Counts.{run_few, sent-is-sum}
@@ -38,7 +39,7 @@ use Rattle.world.proofs.Tracing.{row_long, rows_long, row_back, next_rows, shown
 use Rattle.world.proofs.Tracing.{ruling_misfit, ruling-bad, ruling-full, ruling-runs}
 use Rattle.rehearsal.specs.declared.Tally.{Tally}
 use Rattle.rehearsal.specs.declared.Rehearsed.{Rehearsed}
-use Rattle.rehearsal.specs.Playing.{Lined, Begins, AllLined, decided, record_by, answer_by, laid_by, rehearse_answer, world_left, record_left}
+use Rattle.rehearsal.specs.Playing.{moved, Lined, Begins, AllLined, decided, record_by, answer_by, laid_by, rehearse_answer, world_left, record_left}
 use Rattle.rehearsal.proofs.Moves.{step_moves}
 
 -- ---- one row
@@ -60,24 +61,16 @@ little {rows} {row} {kind} t =
     let done : Bool = eqb (get_or rows (row + 0) 0) 0 in
     (rw t.delivered (at_most_one (done && eqb kind 6)), rw t.dropped (at_most_one (done && eqb kind 7)))
 
--- a flag, counted
-flag_is : (b : Bool) → bool_byte b ≡ (if b then 1 else 0)
-flag_is true = refl
-flag_is false = refl
-
 -- a line, of the columns that were read
 pub columns-read : (rows : List ℕ) (row a e w c d x : ℕ) → a ≡ get_or rows (row + 0) 0 → e ≡ get_or rows (row + 1) 0 → w ≡ get_or rows (row + 2) 0
     → c ≡ u16_at rows (row + 3) → d ≡ get_or rows (row + 5) 0 → x ≡ u32_at rows (row + 6) → a ∷ e ∷ w ∷ c ∷ d ∷ x ∷ [] ≡ columns_at rows row
 unfolding columns_at
 columns-read rows row a e w c d x f g h i j k = rw (f, g, h, i, j, k)
 
-pub lined : (rows : List ℕ) (row kind number at : ℕ) (l out : List ℕ) (p a : ℕ) (xs : List ℕ) → a ≡ get_or rows (row + 0) 0 → xs ≡ columns_at rows row
-    → (p ≡ past at (line (number ∷ xs))) × (out ≡ laid l at (line (number ∷ xs)))
-    → Lined rows row kind number at l out
-    (record { at = p; delivered = bool_byte (eqb a 0 && eqb kind 6); dropped = bool_byte (eqb a 0 && eqb kind 7) })
-lined rows row kind number at l out p a xs f e put =
-    let done : Bool = eqb (get_or rows (row + 0) 0) 0 in
-    record { line = rw e at put; delivered = rw f (flag_is (done && eqb kind 6)); dropped = rw f (flag_is (done && eqb kind 7)) }
+pub lined : (rows : List ℕ) (row kind number at : ℕ) (l out : List ℕ) (p a d x : ℕ) (xs : List ℕ) → a ≡ get_or rows (row + 0) 0 → xs ≡ columns_at rows row
+    → (p ≡ past at (line (number ∷ xs))) × (out ≡ laid l at (line (number ∷ xs))) → d ≡ moved a kind 6 → x ≡ moved a kind 7
+    → Lined rows row kind number at l out (record { at = p; delivered = d; dropped = x })
+lined rows row kind number at l out p a d x xs f e put g h = record { line = rw e at put; delivered = rw f at g; dropped = rw f at h }
 
 first_column : (rows : List ℕ) (row : ℕ) → get_or (columns_at rows row) 0 0 ≡ get_or rows (row + 0) 0
 unfolding columns_at
@@ -189,19 +182,21 @@ module _ (mask : ℕ) (ks : List Step) where
 -- ---- an accepted sheet: its trace, and its record
 
 module _ (b : List ℕ) (mask : ℕ) (good : is_bad_sheet b ≡ false) (m : mask ≡ get_or b 5 0) where
-  not_bad : (check_of b).bad ≡ false
+  abbrev found : checked.Sheet
+  found = record { mask = mask_in b; steps = steps_of b }
+
+  accepts : check_of b ≡ Ok found
   unfolding check_of
-  not_bad = rw good
+  accepts = rw good
 
   pub trace_runs : (w rows w' rows' : List ℕ) → length w ≡ world_width → 80000 ≤ length rows → (w' ≡ trace_world b w rows) × (rows' ≡ trace_left b w rows)
       → (w' ≡ image (last_world (start mask) (steps_from b 6))) × Begins rows' (trace_rows (outcomes (start mask) (steps_from b 6)))
   unfolding trace_world trace_left traced
   trace_runs w rows w' rows' long wide h =
-      let s : checked.Sheet = check_of b in
-      let same : s.mask ≡ mask = (found_facts b s refl not_bad).1 ∙ sym m in
-      let room : traces_wide s.steps ≤ length rows = omega (arith, few_found b s refl not_bad, wide) in
+      let same : found.mask ≡ mask = sym m in
+      let room : traces_wide found.steps ≤ length rows = omega (arith, few_found b found accepts, wide) in
       let is : ruling traces_wide b w rows ≡ runs mask (steps_from b 6) =
-      ruling-runs traces_wide b w rows long s refl not_bad room ∙ ap (λ (n : ℕ). runs n (steps_from b 6)) same in
+      ruling-runs traces_wide b w rows long found accepts room ∙ ap (λ (n : ℕ). runs n (steps_from b 6)) same in
       (rw is at h.0, record { rest = _; whole = rw is at h.1 })
 
   module _ (small : mask < 256) where
@@ -236,29 +231,33 @@ bad_long = refl
 
 -- `bad 9` is there whole, or not at all
 module _ (out : List ℕ) where
-  pub bad_short : length out < 6 → (record { answer = 9; length = 0 } ≡ answer_by out bad_sheet) × (out ≡ laid_by out bad_sheet)
+  abbrev Bad : ℕ → List ℕ → Type 0
+  Bad n out' = (record { refused = Some BadSheet; length = n } ≡ answer_by out bad_sheet) × (out' ≡ laid_by out bad_sheet)
+
+  pub bad_short : length out < 6 → Bad 0 out
   unfolding answer_by laid_by
   bad_short h = let e = lt-ltb (length out) (length bad_of) (rw bad_long h) in (rw e, rw e)
 
-  pub bad-laid : 6 ≤ length out → (n : ℕ) (out' : List ℕ) → (n ≡ past 0 bad_of) × (out' ≡ laid out 0 bad_of)
-      → (record { answer = 9; length = n } ≡ answer_by out bad_sheet) × (out' ≡ laid_by out bad_sheet)
+  pub bad-laid : 6 ≤ length out → (n : ℕ) (out' : List ℕ) → n ≡ past 0 bad_of → out' ≡ laid out 0 bad_of → Bad n out'
   unfolding answer_by laid_by
-  bad-laid h n out' put =
+  bad-laid h n out' position bytes =
       let e = le-ltb (length out) (length bad_of) (rw bad_long h) in
-      let exact : n ≡ length bad_of = omega (arith, put.0, bad_long) in
-      (rw (e, exact), rw e (put.1 ∙ laid-whole out bad_of (rw bad_long h)))
+      let exact : n ≡ length bad_of = omega (arith, position, bad_long) in
+      (rw (e, exact), rw e (bytes ∙ laid-whole out bad_of (rw bad_long h)))
 
 module _ (b w out : List ℕ) where
-  abbrev Left : Rehearsed → List ℕ → List ℕ → Type 0
-  Left r w' out' = (r ≡ rehearse_answer b w out) × ((w' ≡ world_left b w out) × (out' ≡ record_left b w out))
+  pub record Left (r : Rehearsed) (w' out' : List ℕ) : Type 0 where
+    pub answer : r ≡ rehearse_answer b w out
+    pub last : w' ≡ world_left b w out
+    pub printed : out' ≡ record_left b w out
 
   -- what comes of the ruling comes of the call
   left_by : (x : Ruling) → ruling longest b w out ≡ x → (r : Rehearsed) (w' out' : List ℕ) → r ≡ answer_by out x → w' ≡ world_by w x → out' ≡ laid_by out x
       → Left r w' out'
   unfolding rehearse_answer world_left record_left decided
-  left_by x e r w' out' f g h = (rw e f, (rw e g, rw e h))
+  left_by x e r w' out' f g h = record { answer = rw e f; last = rw e g; printed = rw e h }
 
-  run_answered : (mask : ℕ) (ks : List Step) (n : ℕ) → n ≡ length (printed mask ks) → record { answer = 0; length = n } ≡ answer_by out (runs mask ks)
+  run_answered : (mask : ℕ) (ks : List Step) (n : ℕ) → n ≡ length (printed mask ks) → record { refused = None; length = n } ≡ answer_by out (runs mask ks)
   unfolding answer_by
   run_answered mask ks n e = rw e
 
@@ -266,33 +265,33 @@ module _ (b w out : List ℕ) where
   unfolding laid_by
   run-laid mask ks out' e = e
 
-  pub misfit : (length w ≡ world_width → ⊥) → Left (record { answer = 1; length = 0 }) w out
+  pub misfit : (length w ≡ world_width → ⊥) → Left (record { refused = Some BadWorld; length = 0 }) w out
   misfit h = left_by bad_world (ruling_misfit longest b w out h) _ _ _ (unfold answer_by in refl) refl (unfold laid_by in refl)
 
-  module _ (long : length w ≡ world_width) (s : checked.Sheet) (e : s ≡ check_of b) where
-    pub left-bad : s.bad ≡ true → (r : Rehearsed) (out' : List ℕ) → (r ≡ answer_by out bad_sheet) × (out' ≡ laid_by out bad_sheet) → Left r w out'
-    left-bad t r out' h = left_by bad_sheet (ruling-bad longest b w out long s e t) r w out' h.0 refl h.1
+  module _ (long : length w ≡ world_width) where
+    pub left-bad : (x : Refusal) → check_of b ≡ Err x → (r : Rehearsed) (out' : List ℕ) → r ≡ answer_by out bad_sheet → out' ≡ laid_by out bad_sheet → Left r w out'
+    left-bad x e r out' answer bytes = left_by bad_sheet (ruling-bad longest b w out long x e) r w out' answer refl bytes
 
-    module _ (t : s.bad ≡ false) where
+    module _ (s : checked.Sheet) (e : check_of b ≡ Ok s) where
       abbrev ks : List Step
       ks = steps_from b 6
 
-      pub left-full : length out < 33 + 30 * s.steps → Left (record { answer = 8; length = 0 }) w out
+      pub left-full : length out < 33 + 30 * s.steps → Left (record { refused = Some NoRoom; length = 0 }) w out
       left-full l =
-          left_by no_room (ruling-full longest b w out long s e t (rw (longest-is s.steps) l)) _ _ _
+          left_by no_room (ruling-full longest b w out long s e (rw (longest-is s.steps) l)) _ _ _
           (unfold answer_by in refl) refl (unfold laid_by in refl)
 
       pub left_good : 33 + 30 * s.steps ≤ length out → s.mask < 256 → (w' out' : List ℕ) (n : ℕ)
-          → (n ≡ past 0 (printed s.mask ks)) × ((out' ≡ laid out 0 (printed s.mask ks)) × (w' ≡ image (last_world (start s.mask) ks)))
-          → Left (record { answer = 0; length = n }) w' out'
-      left_good l small w' out' n put =
-          let f = found_facts b s e t in
+          → n ≡ past 0 (printed s.mask ks) → out' ≡ laid out 0 (printed s.mask ks) → w' ≡ image (last_world (start s.mask) ks)
+          → Left (record { refused = None; length = n }) w' out'
+      left_good l small w' out' n position bytes last =
+          let f = found_facts b s e in
           let most = shown_few b f.0 in
           let fits = printed-longest s.mask (omega (arith, some b s.mask f.0 f.1 small)) small ks most in
-          let exact : n ≡ length (printed s.mask ks) = omega (arith, put.0, fits, longest-is (length ks), most) in
-          let front = laid-whole out (printed s.mask ks) (omega (arith, fits, longest-is (length ks), steps_long b s e t, l)) in
-          left_by (runs s.mask ks) (ruling-runs longest b w out long s e t (rw (longest-is s.steps) l)) _ w' out'
-          (run_answered s.mask ks n exact) put.1.1 (run-laid s.mask ks out' (put.1.0 ∙ front))
+          let exact : n ≡ length (printed s.mask ks) = omega (arith, position, fits, longest-is (length ks), most) in
+          let front = laid-whole out (printed s.mask ks) (omega (arith, fits, longest-is (length ks), steps_long b s e, l)) in
+          left_by (runs s.mask ks) (ruling-runs longest b w out long s e (rw (longest-is s.steps) l)) _ w' out'
+          (run_answered s.mask ks n exact) last (run-laid s.mask ks out' (bytes ∙ front))
 
 -- ---- a buffer that takes the longest record of 8,000 steps takes the record of every sheet, whole
 

@@ -5,7 +5,7 @@ use Rattle.rules.specs.declared.Step.{Step}
 use Rattle.rules.specs.Steps.{DELIVER, DROP}
 use Rattle.rules.specs.Runs.{outcomes, sum, delivered_by, dropped_by, line, step_lines, printed, longest, bad_of}
 use Rattle.record.specs.Lines.{laid, past}
-use Rattle.world.specs.Tracing.{Ruling, bad_world, bad_sheet, no_room, runs, ruling, number_by, world_by, answer_column, columns_at}
+use Rattle.world.specs.Tracing.{Ruling, bad_world, bad_sheet, no_room, runs, ruling, refused_by, world_by, answer_column, columns_at}
 use Rattle.rehearsal.specs.declared.Tally.{Tally}
 use Rattle.rehearsal.specs.declared.Rehearsed.{Rehearsed}
 
@@ -44,9 +44,9 @@ record_by room bad_sheet = if ltb room (length bad_of) then [] else bad_of
 record_by room no_room = []
 record_by room (runs mask ks) = printed mask ks
 
--- the answer, and how many bytes of a record stand in out
+-- the refusal, if it is one, and how many bytes of a record stand in out
 unfoldable pub answer_by : List ℕ → Ruling → Rehearsed
-answer_by out x = record { answer = number_by x; length = length (record_by (length out) x) }
+answer_by out x = record { refused = refused_by x; length = length (record_by (length out) x) }
 
 -- the record at the front; the bytes past it stay
 unfoldable pub laid_by : List ℕ → Ruling → List ℕ

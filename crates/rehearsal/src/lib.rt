@@ -12,21 +12,28 @@ ghost use Rattle.layout.specs.Image.{image};
 ghost use Rattle.sheet.specs.Reading.{steps_from};
 ghost use Rattle.record.specs.Lines.{laid, past};
 ghost use Rattle.world.specs.Tracing.{bad_sheet, trace_row_width, trace_rows};
-ghost use Rattle.rehearsal.specs.Playing.{Begins, Lined, AllLined, answer_by, laid_by, rehearse_answer, world_left, record_left};
+ghost use Rattle.rehearsal.specs.Playing.{moved, Begins, Lined, AllLined, answer_by, laid_by, rehearse_answer, world_left, record_left};
 
-use sheet::Found;
+use rules::{Refusal, StepKind};
 use world::run::{
     TRACE_ANSWER, TRACE_COUNT, TRACE_DESK, TRACE_EVENT, TRACE_LAST, TRACE_ROW, TRACE_WHO,
 };
 
 // ---- lines
 
-// The position past the lines, and what the accepted steps delivered and dropped.
+// The position past the lines, and how many messages the accepted steps delivered and dropped.
 #[derive(Clone, Copy)]
 struct Tally {
     at: usize,
     delivered: u32,
     dropped: u32,
+}
+
+// 1 for an accepted step of that kind, 0 for any other.
+fn moved(answer: u8, kind: u8, that: u8) -> u32
+    ensures { result ≡ moved answer kind that }
+{
+    (answer == 0 && kind == that) as u32
 }
 
 // "a line a step: number from 1, answer, event, who, stamp count, stamp desk": of the row at `row`. Its answer and the step's kind tell what the step
@@ -44,8 +51,8 @@ fn put_row(rows: &[u8], row: usize, kind: u8, out: &mut [u8], at: usize, number:
     let next = record::put_step(out, at, number, answer, event, who, count, desk, last);
     Tally {
         at: next,
-        delivered: ((answer == 0) & (kind == rules::DELIVER)) as u32,
-        dropped: ((answer == 0) & (kind == rules::DROP)) as u32,
+        delivered: moved(answer, kind, StepKind::Deliver as u8),
+        dropped: moved(answer, kind, StepKind::Drop as u8),
     }
 }
 
@@ -55,30 +62,24 @@ fn put_rows(sheet: &[u8], rows: &[u8], out: &mut [u8], at: usize) -> Tally
     requires begins { Begins rows.now (trace_rows (outcomes (start (get_or sheet.now 5 0)) (steps_from sheet.now 6))) }
     ensures { AllLined (start (get_or sheet.now 5 0)) (steps_from sheet.now 6) at out.old out.new result }
 {
-    let mut from = sheet::HEAD;
     let mut row = 0;
     let mut number: u32 = 1;
-    let mut p = at;
-    let mut delivered: u32 = 0;
-    let mut dropped: u32 = 0;
-    loop {
-        let taken = sheet::reader::read_at(sheet, from);
-        let found = taken.found;
-        let Found::At(k) = found else {
-            return Tally {
-                at: p,
-                delivered: delivered,
-                dropped: dropped,
-            };
+    let mut tally = Tally {
+        at,
+        delivered: 0,
+        dropped: 0,
+    };
+    for step in sheet::reader::new(sheet) {
+        let line = put_row(rows, row, step.kind, out, tally.at, number);
+        tally = Tally {
+            at: line.at,
+            delivered: tally.delivered + line.delivered,
+            dropped: tally.dropped + line.dropped,
         };
-        let t = put_row(rows, row, k.kind, out, p, number);
-        p = t.at;
-        delivered += t.delivered;
-        dropped += t.dropped;
         number += 1;
         row += TRACE_ROW;
-        from = taken.at;
     }
+    tally
 }
 
 // ---- the whole
@@ -103,8 +104,8 @@ fn put_totals(w: &[u8], out: &mut [u8], t: Tally) -> usize
     )
 }
 
-// Room for the trace of any sheet, which has at most 8,000 steps: 80,000 bytes of the stack.
-const ROWS: usize = 8000 * TRACE_ROW;
+// Room for the trace of any sheet: 80,000 bytes of the stack.
+const ROWS: usize = sheet::MOST * TRACE_ROW;
 
 // An accepted sheet.
 fn play(sheet: &[u8], mask: u8, w: &mut [u8], out: &mut [u8]) -> usize
@@ -114,16 +115,16 @@ fn play(sheet: &[u8], mask: u8, w: &mut [u8], out: &mut [u8]) -> usize
     ensures world { w.new ≡ image (last_world (start mask) (steps_from sheet.now 6)) }
 {
     let mut rows = [0u8; ROWS];
-    world::run::trace(sheet, w, &mut rows);
+    let _ = world::run::trace(sheet, w, &mut rows);
     let at = record::put_start(out, mask);
     let t = put_rows(sheet, &rows, out, at);
     put_totals(w, out, t)
 }
 
-// The answer, and how many bytes of a record stand in the buffer for it.
+// A refusal, if it is one, and how many bytes of a record stand in the buffer for it: "For BAD SHEET it prints `bad 9` only".
 #[derive(Clone, Copy)]
 pub struct Rehearsed {
-    pub answer: u8,
+    pub refused: Option<Refusal>,
     pub length: usize,
 }
 
@@ -132,8 +133,8 @@ const ENDS: usize = 33;
 
 const LINE: usize = 30;
 
-// The longest record: that of 8,000 steps.
-pub const LONGEST: usize = 240033;
+// The longest record: that of as many steps as a sheet can have.
+pub const LONGEST: usize = ENDS + LINE * sheet::MOST;
 
 // `bad 9`, and the newline.
 const BAD: usize = 6;
@@ -143,16 +144,14 @@ fn refuse_sheet(out: &mut [u8]) -> Rehearsed
     ensures answer { result ≡ answer_by out.old bad_sheet }
     ensures bytes { out.new ≡ laid_by out.old bad_sheet }
 {
-    if out.len() < BAD {
-        return Rehearsed {
-            answer: rules::BAD_SHEET,
-            length: 0,
-        };
-    }
-    let length = record::put_bad(out);
+    let length = if out.len() < BAD {
+        0
+    } else {
+        record::put_bad(out)
+    };
     Rehearsed {
-        answer: rules::BAD_SHEET,
-        length: length,
+        refused: Some(Refusal::BadSheet),
+        length,
     }
 }
 
@@ -164,23 +163,19 @@ pub fn rehearse(sheet: &[u8], world: &mut [u8], out: &mut [u8]) -> Rehearsed
 {
     if world.len() != layout::WORLD_WIDTH {
         return Rehearsed {
-            answer: rules::BAD_WORLD,
+            refused: Some(Refusal::BadWorld),
             length: 0,
         };
     }
-    let s = sheet::check(sheet);
-    if s.bad {
-        return refuse_sheet(out);
-    }
-    if out.len() < ENDS + LINE * s.steps {
-        return Rehearsed {
-            answer: rules::NO_ROOM,
+    match sheet::check(sheet) {
+        Err(_) => refuse_sheet(out),
+        Ok(found) if out.len() < ENDS + LINE * found.steps => Rehearsed {
+            refused: Some(Refusal::NoRoom),
             length: 0,
-        };
-    }
-    let length = play(sheet, s.mask, world, out);
-    Rehearsed {
-        answer: 0,
-        length: length,
+        },
+        Ok(found) => Rehearsed {
+            refused: None,
+            length: play(sheet, found.mask, world, out),
+        },
     }
 }

@@ -33,7 +33,7 @@ const ZEROS: usize = 2;
 const VALUE_AT: usize = 4;
 
 // "over 8,000 steps"
-const MOST: usize = 8000;
+pub const MOST: usize = 8000;
 
 // What an accepted sheet says before its steps, and how many those are.
 #[derive(Clone, Copy, PartialEq, Eq, Debug)]
