@@ -17,7 +17,7 @@ use Rattle.rules.specs.Sheets as sheets
 use Rattle.sheet.specs.Writing.{buffer_of}
 use Rattle.world.specs.Tracing.{Ruling, bad_world, bad_sheet, no_room, runs, world_by}
 use Rattle.rehearsal.specs.Playing.{decided, answer_by, laid_by, rehearse_answer, world_left, record_left}
-use Rattle.engine.specs.Told.{columns_wide, Stepped, telling, told_step, length_wide, Rehearsal, told_rehearsal}
+use Rattle.engine.specs.Told.{number_told, columns_wide, Stepped, telling, told_step, length_wide, Rehearsal, told_rehearsal}
 
 -- where the answer is not 0, the buffer is b
 Unmoved : List ℕ → Lent → Type 0
@@ -63,10 +63,10 @@ Whole world out told r = (r.answer ≡ 0 → ⊥) → (r.last ≡ world) × ((r.
 
 ruling-kept : (world out told : List ℕ) (x : Ruling)
     → Whole world out told (record {
-      answer = (answer_by out x).answer;
+      answer = number_told (answer_by out x).refused;
       last = world_by world x;
       printed = laid_by out x;
-      told = if eqb (answer_by out x).answer 0 then be32 (answer_by out x).length ++ drop length_wide told else told;
+      told = if eqb (number_told (answer_by out x).refused) 0 then be32 (answer_by out x).length ++ drop length_wide told else told;
     })
 unfolding Whole answer_by laid_by
 ruling-kept world out told bad_world z = (refl, (refl, λ _. refl))

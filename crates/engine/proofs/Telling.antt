@@ -1,5 +1,6 @@
 -- What the exported functions leave in told, and that what refuses leaves every byte. Assumes nothing.
-use Rattle.std.specs.Prelude.{if◌then◌else◌}
+use Rattle.std.specs.Prelude.{if◌then◌else◌, Result, Ok, Err}
+use Rattle.std.specs.Result.{result_err}
 use mathlib.Core.Path.{◌≡◌, refl, sym, ◌∙◌}
 use mathlib.Core.Bool.{Bool, true, false}
 use mathlib.Core.List.{List, ◌++◌}
@@ -9,16 +10,18 @@ use borrow.Author.Tests.{lt-ltb, le-ltb, eq-eqb, ne_eqb}
 use Rattle.rows.specs.Bytes.{placed, bytes_of, be32, cat}
 use Rattle.rows.proofs.Numbers.{length-bytes_of}
 use Rattle.layout.specs.Lent.{Lent, lent_step}
-use Rattle.rules.specs.Sheets.{is_bad_sheet, steps_of}
-use Rattle.sheet.specs.Reading.{check_of}
+use Rattle.rules.specs.declared.Refusal.{Refusal}
+use Rattle.rules.specs.declared.Refusal.TheVariants.{BadSheet}
+use Rattle.rules.specs.Sheets.{is_bad_sheet, mask_in, steps_of}
 use Rattle.sheet.specs.declared.Sheet.{Sheet}
+use Rattle.sheet.specs.Reading.{check_of}
 use Rattle.rules.specs.Runs.{fields}
 use Rattle.world.specs.Answer.{report_of, lent_of}
 use Rattle.world.specs.declared.Answer.{Answer}
 use Rattle.world.proofs.Tracing.{front}
 use Rattle.rehearsal.specs.declared.Rehearsed.{Rehearsed}
 use Rattle.rehearsal.specs.Playing.{rehearse_answer, world_left, record_left}
-use Rattle.engine.specs.Told.{told_of, told_bytes, Stepped, telling, told_step, Rehearsal, told_rehearsal}
+use Rattle.engine.specs.Told.{number_told, sheet_number, told_of, told_bytes, Stepped, telling, told_step, Rehearsal, told_rehearsal}
 
 told_long : (c : List ℕ) → length (told_bytes c) ≡ 9
 unfolding told_bytes cat bytes_of
@@ -60,22 +63,22 @@ module _ (w : List ℕ) (kind id value : ℕ) (told : List ℕ) where
         (rw tells (sym (number_of a b)), (rw tells (buffer_of_lem a b), rw (tells, ne_eqb (lent_of a b).answer 0 not-0)))
 
     pub accepted : a.number ≡ 0 → (c t : List ℕ) → c ≡ fields (report_of a.report).event (report_of a.report).who → t ≡ placed told 0 (told_bytes c)
-        → (0 ≡ after.answer) × ((b ≡ after.buffer) × (t ≡ after.told))
+        → (a.number ≡ after.answer) × ((b ≡ after.buffer) × (t ≡ after.told))
     accepted z c t f g =
         let laid : t ≡ told_bytes (told_of (lent_of a b)) ++ drop 9 told = rw (f ∙ told_of_lem a b) at (g ∙ front 9 told (told_bytes c) (told_long c) room) in
         let done : (lent_of a b).answer ≡ 0 = number_of a b ∙ z in
-        (rw tells (sym done), (rw tells (buffer_of_lem a b), rw (tells, eq-eqb (lent_of a b).answer 0 done) laid))
+        (rw tells (sym (number_of a b)), (rw tells (buffer_of_lem a b), rw (tells, eq-eqb (lent_of a b).answer 0 done) laid))
 
 -- ---- a sheet's check
 
-pub bad-is : (b : List ℕ) → (check_of b).bad ≡ is_bad_sheet b
+pub check_number : (b : List ℕ) → number_told (result_err (check_of b)) ≡ sheet_number b
 unfolding check_of
-bad-is b = go (is_bad_sheet b)
+check_number b = go (is_bad_sheet b)
   where
-    found : Bool → Sheet
-    found t = if t then record { bad = true; mask = 0; steps = 0 } else record { bad = false; mask = get_or b 5 0; steps = steps_of b }
+    found : Bool → Result Sheet Refusal
+    found t = if t then Err BadSheet else Ok (record { mask = mask_in b; steps = steps_of b })
 
-    go : (t : Bool) → (found t).bad ≡ t
+    go : (t : Bool) → number_told (result_err (found t)) ≡ (if t then 9 else 0)
     go true = refl
     go false = refl
 
@@ -92,19 +95,21 @@ module _ (sheet world out told : List ℕ) where
   module _
       (room : 4 ≤ length told)
       (r : Rehearsed) (w o : List ℕ)
-      (e : (r ≡ rehearse_answer sheet world out) × ((w ≡ world_left sheet world out) × (o ≡ record_left sheet world out)))
+      (e : r ≡ rehearse_answer sheet world out)
+      (last : w ≡ world_left sheet world out)
+      (printed : o ≡ record_left sheet world out)
     where
-      pub turned_away : (r.answer ≡ 0 → ⊥)
-          → (r.answer ≡ rehearsal.answer) × ((w ≡ rehearsal.last) × ((o ≡ rehearsal.printed) × (told ≡ rehearsal.told)))
+      pub turned_away : (number_told r.refused ≡ 0 → ⊥)
+          → (number_told r.refused ≡ rehearsal.answer) × ((w ≡ rehearsal.last) × ((o ≡ rehearsal.printed) × (told ≡ rehearsal.told)))
       unfolding told_rehearsal
       turned_away z =
           let long = le-ltb (length told) 4 room in
-          (rw (long, ← e.0), (rw long e.1.0, (rw long e.1.1, rw (long, ← e.0, ne_eqb r.answer 0 z))))
+          (rw (long, ← e), (rw long last, (rw long printed, rw (long, ← e, ne_eqb (number_told r.refused) 0 z))))
 
-      pub rehearsed : r.answer ≡ 0 → (t : List ℕ) → t ≡ placed told 0 (be32 r.length)
-          → (0 ≡ rehearsal.answer) × ((w ≡ rehearsal.last) × ((o ≡ rehearsal.printed) × (t ≡ rehearsal.told)))
+      pub rehearsed : number_told r.refused ≡ 0 → (t : List ℕ) → t ≡ placed told 0 (be32 r.length)
+          → (number_told r.refused ≡ rehearsal.answer) × ((w ≡ rehearsal.last) × ((o ≡ rehearsal.printed) × (t ≡ rehearsal.told)))
       unfolding told_rehearsal
       rehearsed z t g =
           let long = le-ltb (length told) 4 room in
           let laid : t ≡ be32 r.length ++ drop 4 told = g ∙ front 4 told (be32 r.length) (length-bytes_of 4 r.length) room in
-          (rw (long, ← e.0) (sym z), (rw long e.1.0, (rw long e.1.1, rw (long, ← e.0, eq-eqb r.answer 0 z) laid)))
+          (rw (long, ← e), (rw long last, (rw long printed, rw (long, ← e, eq-eqb (number_told r.refused) 0 z) laid)))

@@ -1,6 +1,8 @@
 -- What the exported functions answer and leave in the buffers lent to them. Assumes nothing.
-use Rattle.std.specs.Prelude.{List, [], ◌∷◌, ◌++◌, ℕ, eqb, ltb, length, get_or, drop, if◌then◌else◌}
+use Rattle.std.specs.Prelude.{List, [], ◌∷◌, ◌++◌, Option, None, Some, ℕ, eqb, ltb, length, get_or, drop, if◌then◌else◌}
 use Rattle.rows.specs.Bytes.{be16, be32, cat}
+use Rattle.rules.specs.Coded.{number_of}
+use Rattle.rules.specs.declared.Refusal.{Refusal}
 use Rattle.rules.specs.Messages.{bad_world, no_room, number}
 use Rattle.layout.specs.Image.{byte, good_bytes}
 use Rattle.rules.specs.Runs.{fields}
@@ -8,6 +10,11 @@ use Rattle.layout.specs.Lent.{Lent, lent_step}
 use Rattle.rules.specs.Sheets.{is_bad_sheet}
 use Rattle.rules.specs.Sheets as sheets
 use Rattle.rehearsal.specs.Playing.{rehearse_answer, world_left, record_left}
+
+-- document 01's number for an answer: the refusal's, or 0
+abbrev pub number_told : Option Refusal → ℕ
+number_told None = 0
+number_told (Some x) = number_of x
 
 -- BAD WORLD: "world not good"
 abbrev pub good_number : List ℕ → ℕ
@@ -67,8 +74,8 @@ told_rehearsal sheet world out told =
     else
     (let r = rehearse_answer sheet world out in
     record {
-      answer = r.answer;
+      answer = number_told r.refused;
       last = world_left sheet world out;
       printed = record_left sheet world out;
-      told = if eqb r.answer 0 then be32 r.length ++ drop length_wide told else told;
+      told = if eqb (number_told r.refused) 0 then be32 r.length ++ drop length_wide told else told;
     })

@@ -7,10 +7,10 @@ ghost use Rattle.layout.specs.Lent.{lent_start};
 ghost use Rattle.rules.specs.Sheets.{number};
 ghost use Rattle.sheet.specs.Writing.{ruled, buffer_of};
 ghost use Rattle.world.specs.Tracing.{columns_of};
-ghost use Rattle.engine.specs.Told.{good_number, sheet_number, told_bytes, told_step, told_rehearsal};
+ghost use Rattle.engine.specs.Told.{number_told, good_number, sheet_number, told_bytes, told_step, told_rehearsal};
 
-use rules::Step;
-use sheet::Written;
+use rows::Field;
+use rules::{Refusal, Step};
 use world::run::Columns;
 
 // What a step tells: event 1, who 1, count 2, desk 1, value or view 4.
@@ -22,33 +22,34 @@ const LENGTH: usize = 4;
 fn put_columns(told: &mut [u8], c: Columns)
     ensures { told.new ≡ placed told.old 0 (told_bytes (columns_of c)) }
 {
-    let widths = [1u8, 1, 2, 1, 4];
-    let xs = [
-        c.event as u32,
-        c.who as u32,
-        c.count as u32,
-        c.desk as u32,
-        c.last,
+    let fields = [
+        Field::Byte(c.event),
+        Field::Byte(c.who),
+        Field::U16(c.count),
+        Field::Byte(c.desk),
+        Field::U32(c.last),
     ];
-    rows::put_fields(told, 0, &widths, &xs);
+    rows::put_fields(told, 0, &fields);
 }
 
 fn put_length(told: &mut [u8], n: u32)
     ensures { told.new ≡ placed told.old 0 (be32 n) }
 {
-    let widths = [4u8];
-    let xs = [n];
-    rows::put_fields(told, 0, &widths, &xs);
+    rows::put_fields(told, 0, &[Field::U32(n)]);
+}
+
+// 0 for what is done, and else the refusal's number.
+fn answer_number(refused: Option<Refusal>) -> u8
+    ensures { result ≡ number_told refused }
+{
+    refused.map_or(0, Refusal::number)
 }
 
 // BAD WORLD for bytes that are no good world.
 pub fn world_good(w: &[u8]) -> u8
     ensures { result ≡ good_number w.now }
 {
-    if good::is_good(w) {
-        return 0;
-    }
-    rules::BAD_WORLD
+    answer_number((!good::is_good(w)).then_some(Refusal::BadWorld))
 }
 
 pub fn world_start(w: &mut [u8], mask: u8) -> u8
@@ -65,26 +66,20 @@ pub fn world_step(w: &mut [u8], kind: u8, id: u8, value: u32, told: &mut [u8]) -
     ensures columns { told.new ≡ (told_step w.old kind id value told.old).told }
 {
     if told.len() < COLUMNS {
-        return rules::NO_ROOM;
+        return answer_number(Some(Refusal::NoRoom));
     }
-    let step = Step { kind, id, value };
-    let answer = world::step(w, step);
-    let number = answer.number;
-    if number != 0 {
-        return number;
+    let answer = world::step(w, Step { kind, id, value });
+    if answer.number == 0 {
+        put_columns(told, world::run::columns_of(answer));
     }
-    put_columns(told, world::run::columns_of(answer));
-    0
+    answer.number
 }
 
 // BAD SHEET for bytes that are no sheet.
 pub fn sheet_check(sheet: &[u8]) -> u8
     ensures { result ≡ sheet_number sheet.now }
 {
-    if sheet::check(sheet).bad {
-        return rules::BAD_SHEET;
-    }
-    0
+    answer_number(sheet::check(sheet).err())
 }
 
 // A sheet of n steps takes 6 + 8 * n bytes.
@@ -93,12 +88,7 @@ pub fn sheet_write(buf: &mut [u8], mask: u8, kinds: &[u8], ids: &[u8], values: &
     ensures left { buf.new
         ≡ buffer_of buf.old (ruled buf.old mask kinds.now ids.now values.now) }
 {
-    let written = sheet::write(buf, mask, kinds, ids, values);
-    match written {
-        Written::Done(size) => 0,
-        Written::NoRoom => rules::NO_ROOM,
-        Written::BadSheet => rules::BAD_SHEET,
-    }
+    answer_number(sheet::write(buf, mask, kinds, ids, values).err())
 }
 
 // Of an accepted sheet, the record's length goes into the first four bytes of `told`; where it is shorter, NO ROOM.
@@ -109,12 +99,12 @@ pub fn sheet_rehearse(sheet: &[u8], world: &mut [u8], out: &mut [u8], told: &mut
     ensures length { told.new ≡ (told_rehearsal sheet.now world.old out.old told.old).told }
 {
     if told.len() < LENGTH {
-        return rules::NO_ROOM;
+        return answer_number(Some(Refusal::NoRoom));
     }
     let done = rehearsal::rehearse(sheet, world, out);
-    if done.answer != 0 {
-        return done.answer;
+    let number = answer_number(done.refused);
+    if number == 0 {
+        put_length(told, done.length as u32);
     }
-    put_length(told, done.length as u32);
-    0
+    number
 }
