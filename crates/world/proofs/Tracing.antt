@@ -39,7 +39,8 @@ use Rattle.sheet.specs.declared.Sheet as checked
 use Rattle.sheet.specs.Reading.{check_of, read_of, steps_from}
 use Rattle.sheet.proofs.Walk.{check_reads, accepted, count, sound, front as read-front}
 use Rattle.world.specs.declared.Answer.{Answer}
-use Rattle.world.specs.Answer.{report_of, lent_of, columns}
+use Rattle.world.specs.declared.Report.{Report}
+use Rattle.world.specs.Answer.{report_of, lent_of, answer_of, done_of, columns}
 use Rattle.world.specs.Commits.{free_rows}
 use Rattle.world.specs.Tracing.{waiting_rows, trace_row_width, columns_bytes, columns_at, trace_row, trace_rows, Stepped, Ruling, bad_world, bad_sheet, no_room, runs}
 use Rattle.world.specs.Tracing.{room_for, ruling, refused_by, refused_or, world_by, traces_wide, traced, steps_by, trace_by, trace_answer, trace_world, trace_left}
@@ -163,6 +164,12 @@ start_answered : (b : List ℕ) (mask : ℕ) (a : Answer) (w : List ℕ) → len
     → w ≡ image (start mask)
 unfolding lent_start lent_of
 start_answered b mask a w long some small e = ap (λ (l : Lent). l.buffer) (rw (long, ne_eqb mask 0 some, lt-leb 256 mask small) at e)
+
+-- a step's answer says what was done, or the refusal
+pub done_answered : (r : Result Report Refusal) (b : List ℕ) → lent_of (answer_of r) b ≡ done_of r b
+unfolding lent_of answer_of done_of report_of
+done_answered (Ok x) b = refl
+done_answered (Err x) b = refl
 
 pub turned : (W : World) (k : Step) (at : ℕ) (l : List ℕ) (a : Answer) (w rows : List ℕ) → Answered a (stepped W k) W w
     → rows ≡ placed l at (columns_bytes (columns a)) → Stepped W k at l w rows

@@ -98,7 +98,7 @@ fn turn(w: &mut [u8], rows: &mut [u8], at: usize, k: Step)
     requires { good_bytes w.old ≡ true }
     ensures { Stepped (world_at w.old) k at rows.old w.new rows.new }
 {
-    let a = super::step_good(w, k);
+    let a = Answer::from(super::step_good(w, k));
     put_row(rows, at, a);
 }
 
