@@ -5,7 +5,7 @@ use mathlib.Core.Path.{◌≡◌, refl, sym, ◌∙◌}
 use mathlib.Core.Bool.{Bool, true, false}
 use mathlib.Core.List.{List, ◌++◌}
 use Prim.Native.Nat.{ℕ, ◌≤◌, ◌<◌}
-use lib.ListN.{length, get_or, drop}
+use lib.ListN.{length, drop}
 use borrow.Author.Tests.{lt-ltb, le-ltb, eq-eqb, ne_eqb}
 use Rattle.rows.specs.Bytes.{placed, bytes_of, be32, cat}
 use Rattle.rows.proofs.Numbers.{length-bytes_of}

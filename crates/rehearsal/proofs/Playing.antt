@@ -269,7 +269,8 @@ module _ (b w out : List ℕ) where
   misfit h = left_by bad_world (ruling_misfit longest b w out h) _ _ _ (unfold answer_by in refl) refl (unfold laid_by in refl)
 
   module _ (long : length w ≡ world_width) where
-    pub left-bad : (x : Refusal) → check_of b ≡ Err x → (r : Rehearsed) (out' : List ℕ) → r ≡ answer_by out bad_sheet → out' ≡ laid_by out bad_sheet → Left r w out'
+    pub left-bad : (x : Refusal) → check_of b ≡ Err x → (r : Rehearsed) (out' : List ℕ) → r ≡ answer_by out bad_sheet → out' ≡ laid_by out bad_sheet
+        → Left r w out'
     left-bad x e r out' answer bytes = left_by bad_sheet (ruling-bad longest b w out long x e) r w out' answer refl bytes
 
     module _ (s : checked.Sheet) (e : check_of b ≡ Ok s) where

@@ -3,7 +3,8 @@
 
 ghost use Rattle.std.specs.Prelude.{◌≡◌, ◌≤◌, ◌/◌, ◌||◌, eqb, ltb, length};
 ghost use Rattle.rows.specs.Bytes.{placed};
-ghost use Rattle.rules.specs.Sheets.{version1, marked, header_width, header_bytes, is_bad_sheet, all_zeros_in, step_bytes, steps_bytes, step_width, sheet_width, number};
+ghost use Rattle.rules.specs.Sheets.{version1, marked, header_width, header_bytes, is_bad_sheet, all_zeros_in};
+ghost use Rattle.rules.specs.Sheets.{step_bytes, steps_bytes, step_width, sheet_width, number};
 ghost use Rattle.sheet.specs.Reading.{check_of, front_of, step_at, after_of};
 ghost use Rattle.sheet.specs.Writing.{listed, unequal, ruled, ruled_size, buffer_of, number_of, size_of};
 

@@ -43,7 +43,8 @@ use Rattle.world.specs.declared.Report.{Report}
 use Rattle.world.specs.Answer.{report_of, lent_of, answer_of, done_of, columns}
 use Rattle.world.specs.Commits.{free_rows}
 use Rattle.world.specs.Tracing.{waiting_rows, trace_row_width, columns_bytes, columns_at, trace_row, trace_rows, Stepped, Ruling, bad_world, bad_sheet, no_room, runs}
-use Rattle.world.specs.Tracing.{room_for, ruling, refused_by, refused_or, world_by, traces_wide, traced, steps_by, trace_by, trace_answer, trace_world, trace_left}
+use Rattle.world.specs.Tracing.{room_for, ruling, refused_by, refused_or, world_by, traces_wide, traced, steps_by}
+use Rattle.world.specs.Tracing.{trace_by, trace_answer, trace_world, trace_left}
 use Rattle.world.proofs.Places.{free_rows_lem}
 
 -- ---- what waits

@@ -1,5 +1,5 @@
 // A whole run of a sheet: a row of its trace for each step, and the last world. Document 01, "Sheets and the printed record".
-ghost use Rattle.std.specs.Prelude.{◌≡◌, true, false, [], ◌∷◌, ◌*◌, ◌≤◌, length, get_or};
+ghost use Rattle.std.specs.Prelude.{◌≡◌, true, false, [], ◌∷◌, ◌*◌, ◌≤◌, length};
 ghost use Rattle.rows.specs.Bytes.{placed};
 ghost use Rattle.rules.specs.Sheets.{is_bad_sheet};
 ghost use Rattle.rules.specs.Runs.{fields, outcomes, last_world};

@@ -14,7 +14,8 @@ loop-kind-preserved c =
     let a = c.args in
     let x = c.in-Some in
     let pairs = YieldsList-from_zip {s = c.zip.result} (YieldsList-from_slice a.kinds.now (cc)) (YieldsList-from_slice a.ids.now (cc)) in
-    let zipped = YieldsList-from_zip {s = c.zip-kind-items.result} (YieldsList-at c.zip-kind-items.ensures.first pairs) (YieldsList-from_slice a.values.now (cc)) in
+    let first = YieldsList-at c.zip-kind-items.ensures.first pairs in
+    let zipped = YieldsList-from_zip {s = c.zip-kind-items.result} first (YieldsList-from_slice a.values.now (cc)) in
     let all = YieldsList-at c.into_iter-kind-iterator.ensures.into_iter_gives zipped in
     let turn = YieldsList-turn all c.loop-kind.yielded _ c.loop-kind.yielded_by _ c.next.new.self _ x.is c.next.ensures.steps in
     rw (length_push c.loop-kind.yielded ((x.kind, x.id), x.value))
@@ -24,7 +25,8 @@ pub returns : goal.returns
 returns c =
     let a = c.args in
     let pairs = YieldsList-from_zip {s = c.zip.result} (YieldsList-from_slice a.kinds.now (cc)) (YieldsList-from_slice a.ids.now (cc)) in
-    let zipped = YieldsList-from_zip {s = c.zip-kind-items.result} (YieldsList-at c.zip-kind-items.ensures.first pairs) (YieldsList-from_slice a.values.now (cc)) in
+    let first = YieldsList-at c.zip-kind-items.ensures.first pairs in
+    let zipped = YieldsList-from_zip {s = c.zip-kind-items.result} first (YieldsList-from_slice a.values.now (cc)) in
     let all = YieldsList-at c.into_iter-kind-iterator.ensures.into_iter_gives zipped in
     let end = YieldsList-end all c.loop-kind.yielded _ c.loop-kind.yielded_by _ c.next.new.self c.in-None.is c.next.ensures.steps in
     left-none c.loop-kind.invariant (omega (arith, zipped-length a.kinds.now a.ids.now a.values.now, end.1))
