@@ -42,7 +42,7 @@ pub fn noted(n: Notes, from: u8, q: Sequence) -> Notes
     r
 }
 
-// The set of those whose last note is q.
+// The set of those whose last note is q; the notes come from the highest on, so that relay 0 has the lowest bit.
 pub fn agreeing(n: Notes, q: Sequence) -> u8
     ensures { result ≡ rules.agreeing (notes_of n) (views_of q) }
 {

@@ -14,9 +14,9 @@ use Rattle.views.proofs.Rows.{views_length, held}
 use Rattle.rules.specs.Sets.{inside, beyond, all}
 use Rattle.rules.specs.Stamps.{Pair}
 use Rattle.rules.specs.Messages.{Refusal, bad_world, bad_step, empty, dead, not_now, not_yet, worn, no_room, number, Answer, refused, does}
-use Rattle.rules.specs.State.{Generator, Transfer, Relay, no_relay, with_known, with_active}
+use Rattle.rules.specs.State.{Generator, Transfer, Relay, no_relay, with_active}
 use Rattle.rules.specs.Generators.{put_generator, with_own, hears}
-use Rattle.rules.specs.Relays.{is_for, learns, transfer_for, put_transfer, keeps, gathers, sent_first}
+use Rattle.rules.specs.Relays.{is_for, transfer_for, put_transfer, keeps, gathers, sent_first}
 use Rattle.rules.proofs.Generators.{settles-leaves}
 use Rattle.rules.proofs.Lists.{those_fewer}
 use Rattle.rules.proofs.Transfers.{found_old, found_new}
@@ -37,17 +37,6 @@ use Rattle.relay.specs.Fitting.{shows_both}
 -- a row has room for what stands beyond w in a row
 pub held_beyond : (r : Sequence) (w : ℕ) (q : Sequence) → length q.views ≡ 15 → r ≡ row_of (beyond w (views_of q)) → views_of r ≡ beyond w (views_of q)
 held_beyond r w q full e = held r _ e ∙ take_all 15 _ (omega (arith, those_fewer (inside w) (views_of q), views_length q full))
-
--- ---- the known view
-
-known_if : (b : Bool) (r : Relay) (v : ℕ) → with_known r (if b then v else r.known) ≡ (if b then with_known r v else r)
-unfolding with_known
-known_if true r v = refl
-known_if false r v = refl
-
-pub known_either : (r : Relay) (v : ℕ) → with_known r (if inside r.known v then v else r.known) ≡ learns r v
-unfolding learns
-known_either r v = known_if (inside r.known v) r v
 
 -- ---- what a part shows is at most one
 

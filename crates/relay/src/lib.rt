@@ -27,7 +27,7 @@ mod transfers; // transfers, and the head from view to view
 
 // The update "relay s joined".
 fn joins(s: u8) -> u16
-    requires { s < 8 }
+    requires { s < sets.relay_count }
     ensures { result ≡ sets.joins s }
 {
     1 << s
@@ -35,7 +35,7 @@ fn joins(s: u8) -> u16
 
 // The update "relay s left".
 fn leaves(s: u8) -> u16
-    requires { s < 8 }
+    requires { s < sets.relay_count }
     ensures { result ≡ sets.leaves s }
 {
     1 << (rules::RELAYS + s as usize)
@@ -83,7 +83,7 @@ pub fn timer_rang(p: Part) -> Result<Plan<Part>, Refusal>
     Ok(at_generator(p, generator::proposes(parts::generator_for(p, v), q)))
 }
 
-// A rule at the generator for v. "A generator or transfer that a rule notes into, proposes with or keeps an install in is taken if absent"
+// A rule at a generator. "A generator or transfer that a rule notes into, proposes with or keeps an install in is taken if absent"
 fn at_generator(p: Part, t: Turn) -> Plan<Part>
     ensures { (turn : generators.Turn) → shows_view turn.next.view (part_of p) ≡ true → turn_of t ≡ turned turn
         → plan_of (Ok result) ≡ planned no_relay (rules.at_generator (part_of p) turn) }
@@ -126,7 +126,7 @@ fn request_heard(p: Part, from: u8, u: u16, c: u16) -> Result<Plan<Part>, Refusa
 
 // ---- proposals and convergences
 
-// "Proposal(v, q): note it for the sender."; "Converged(v, q): note it."
+// "Proposal(v, q): note it for the sender."; "Converged(v, q): note it." Which of the two rules the generator for v goes by, the caller says.
 fn heard_at<F: FnOnce(Generator) -> Turn>(p: Part, v: u16, hear: F) -> Result<Plan<Part>, Refusal>
     requires { F.IsAlwaysCallable hear }
     ensures { (turn : generators.Turn) → turn.next.view ≡ v
@@ -199,7 +199,7 @@ fn install_heard(s: u8, p: Part, o: u16, w: u16, q: Sequence) -> Result<Plan<Par
 
 // "note sender, greatest stamp with its value, updates"
 fn gathers(t: Transfer, from: u8, pair: Pair, updates: u16) -> Transfer
-    requires { from < 8 }
+    requires { from < sets.relay_count }
     ensures { transfer_of result ≡ rules.gathers (transfer_of t) from pair updates }
 {
     Transfer {
@@ -300,8 +300,8 @@ pub fn hears(s: u8, p: Part, from: u8, b: Body) -> Result<Plan<Part>, Refusal>
         MessageKind::State => state_heard(p, from, b.first, b.second, b.pair, b.updates),
         MessageKind::Get => get_heard(p, from, b.tries, b.first),
         MessageKind::Put => put_heard(p, from, b.tries, b.first, b.pair),
-        MessageKind::ViewReply | MessageKind::PairReply | MessageKind::Ack => Ok(messages::quietly(
-            p,
-        )),
+        MessageKind::ViewReply | MessageKind::PairReply | MessageKind::Ack => {
+            Ok(messages::quietly(p))
+        }
     }
 }
