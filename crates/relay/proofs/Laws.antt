@@ -40,8 +40,8 @@ held_beyond r w q full e = held r _ e ∙ take_all 15 _ (omega (arith, those_few
 
 -- ---- what a part shows is at most one
 
-pub all_shown : {A B : Type 0} (means : A → B) (test : B → Bool) (shown : Option A) (r : Bool) (P : A → Type 0) → MatchOption shown (IsTrue r) P
-    → ((x : A) → P x → r ≡ test (means x)) → r ≡ all test (listed means shown)
+pub all_shown : {A B : Type 0} (means : A → B) (test : B → Bool) (shown : Option A) (r : Bool) (P : A → Type 0)
+    → MatchOption shown (IsTrue r) P → ((x : A) → P x → r ≡ test (means x)) → r ≡ all test (listed means shown)
 unfolding all
 all_shown means test (Some x) r P h e = e x h ∙ sym (and-true (test (means x)))
 all_shown means test None r P h e = h
@@ -98,7 +98,8 @@ number_pos not_yet = lit< tt
 number_pos worn = lit< tt
 number_pos no_room = lit< tt
 
-pub first_answer : {p : Plan Part} (s : code-sending.Sending) (later : Plan Part) (x : Answer Relay) → p ≡ plan_of_all later.next (s ∷ later.sends.of) later.event
+pub first_answer : {p : Plan Part} (s : code-sending.Sending) (later : Plan Part) (x : Answer Relay)
+    → p ≡ plan_of_all later.next (s ∷ later.sends.of) later.event
     → plan_of (Ok later) ≡ planned no_relay x → plan_of (Ok p) ≡ planned no_relay (sent_first (sending_of s ∷ []) x)
 unfolding plan_of planned
 first_answer s later (does a ss e) h k = rw h (first_says part_of no_relay s later a ss e k)

@@ -8,4 +8,5 @@ use Rattle.relay.proofs.parts.shows_view.Goals as goal
 
 pub returns : goal.returns
 unfolding part_of relay_of generator_of
-returns c = all_shown generator_of (λ (g : Generator). eqb g.view c.args.v) c.args.p.generator c.is_none_or.result _ c.is_none_or.ensures (λ x h. search rules)
+returns c =
+    all_shown generator_of (λ (g : Generator). eqb g.view c.args.v) c.args.p.generator c.is_none_or.result _ c.is_none_or.ensures (λ x h. search rules)
