@@ -143,7 +143,7 @@ fn relay_acts<F: FnOnce(u8, Part) -> Result<Plan<Part>, Refusal>>(
     requires callable { F.IsAlwaysCallable ask }
     ensures { (kind : ℕ)
         → ((part : code-part.Part) (plan : Result (code-plan.Plan code-part.Part) code-refusal.Refusal) → s < 8 → shows_view (part_of part).view (part_of part) ≡ true
-            → F.post ask s part plan → plan_of plan ≡ planned no_relay (relay_asked kind s (part_of part)))
+        → F.post ask s part plan → plan_of plan ≡ planned no_relay (relay_asked kind s (part_of part)))
         → done_of result w.new ≡ lent.left w.old (relay_steps (world_at w.old) kind s) }
 {
     if FIRST_DESK <= s {
@@ -167,7 +167,7 @@ fn desk_acts<F: FnOnce(Desk) -> Result<Plan<Desk>, Refusal>>(
     requires callable { F.IsAlwaysCallable ask }
     ensures { (kind x : ℕ)
         → ((desk : code.Desk) (plan : Result (code-plan.Plan code.Desk) code-refusal.Refusal)
-            → F.post ask desk plan → desk_plan_of plan ≡ planned no_desk (desk_asked kind x desk))
+        → F.post ask desk plan → desk_plan_of plan ≡ planned no_desk (desk_asked kind x desk))
         → done_of result w.new ≡ lent.left w.old (desk_steps (world_at w.old) kind n x) }
 {
     if rules::DESKS <= n as usize {
@@ -245,10 +245,7 @@ fn deliver(w: &mut [u8], p: u8) -> Result<Report, Refusal>
     if reads::is_free(w, p as usize) {
         return Err(Refusal::Empty);
     }
-    let m = image::message_at(
-        w,
-        layout::WORLD_PLACES + p as usize * layout::MESSAGE_WIDTH,
-    );
+    let m = image::message_at(w, layout::WORLD_PLACES + p as usize * layout::MESSAGE_WIDTH);
     if !reads::alive_at(w, m.to) {
         return Err(Refusal::Dead);
     }
