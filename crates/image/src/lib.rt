@@ -207,6 +207,7 @@ pub fn put_transfer(s: &mut [u8], at: usize, t: Transfer)
     rows::put_fields(s, at + layout::TRANSFER_SENDERS, &last);
 }
 
+// A phase in a desk's row. (Two functions of this module and no `From`: an impl would stand in crate rules, which knows no row.)
 fn phase_number(p: Phase) -> u8
     ensures { result ≡ phase_number p }
 {

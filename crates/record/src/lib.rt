@@ -61,6 +61,7 @@ pub fn put_start(out: &mut [u8], mask: u8) -> usize
     put_line(out, at, &[mask as u32])
 }
 
+// (All are numbers here: a line of the record is one of numbers.)
 pub fn put_step(
     out: &mut [u8],
     at: usize,

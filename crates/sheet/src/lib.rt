@@ -169,7 +169,7 @@ fn is_no_sheet(mask: u8, kinds: &[u8], ids: &[u8], values: &[u32]) -> bool
 }
 
 // "A list with its mask is written into a lent buffer: BAD SHEET for mask 0 or over 8,000 steps, then NO ROOM; bytes past the sheet stay."
-// Answers how many bytes the sheet has.
+// Answers how many bytes the sheet has. (Three slices side by side, as C hands them to `engine::sheet_write`.)
 pub fn write(
     buf: &mut [u8],
     mask: u8,

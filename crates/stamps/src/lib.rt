@@ -17,7 +17,7 @@ pub struct Pair {
     pub value: u32,
 }
 
-// "Comparing two stamps answers minus one, zero or one."
+// "Comparing two stamps answers minus one, zero or one." (A number and no Ordering: document 01 asks for "a signed answer with its exact sign meaning".)
 pub fn compare(a: Stamp, b: Stamp) -> i8
     ensures { result ≡ compared_of a b }
 {

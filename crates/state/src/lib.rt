@@ -43,6 +43,7 @@ pub struct Head {
 }
 
 // What a message says: a field for everything that some kind says; a field that its own kind does not say means nothing; `messages::plain` makes it zero.
+// (The kind is a number and no name: what is promised of a body is promised of every number, by `messages::plain`, `relay::hears`, `desk::hears` and `image`.)
 #[derive(Clone, Copy)]
 pub struct Body {
     pub kind: u8,
@@ -61,7 +62,7 @@ pub struct Message {
     pub body: Body,
 }
 
-// A body, and the set of its receivers; none where nothing is sent.
+// A body, and the set of its receivers; none where nothing is sent. (No option: a rule may also send to the members of a view that has none.)
 #[derive(Clone, Copy)]
 pub struct Sending {
     pub body: Body,

@@ -1,5 +1,8 @@
 // Document 01, "The world" and "Steps": start and one step on a lent buffer. A step makes a plan by value, and only a plan that finds room is written:
 // so a refused step changes no byte.
+//
+// That the buffer is a good world stands in clauses, and no type keeps it: between the writes of one step it is none, and a type that holds a `&mut` would have
+// to keep it at each.
 #![tactic(auto)]
 
 ghost use Rattle.std.specs.Prelude.{◌≡◌, ◌≢◌, true, false, ℕ, ◌≤◌, ◌<◌, Result, unwrap_or};
@@ -109,7 +112,7 @@ fn relay_commits(
     Ok(tells(plan.event, s))
 }
 
-// The same of the desk n.
+// The same of the desk n. (Not one function for both: of the relay's answer seats are asked too, and each is written in its own way.)
 fn desk_commits(
     w: &mut [u8],
     n: u8,
@@ -183,7 +186,7 @@ fn desk_acts<F: FnOnce(Desk) -> Result<Plan<Desk>, Refusal>>(
 
 // ---- delivery
 
-// Which generator, and which transfer, a message is about; view 0, which is no view, where none.
+// Which generator, and which transfer, a message is about; view 0, which is no view, where none (as `generator_of_body` and `move_of_body` have it).
 #[derive(Clone, Copy)]
 struct About {
     generator: u16,

@@ -70,7 +70,7 @@ pub(crate) fn send_all(w: &mut [u8], from: u8, x: Sendings)
 
 // ---- transfers
 
-// A row of zeros.
+// A row of zeros. (A literal: `relay` makes the transfers that it takes, and this is none.)
 #[tactic(auto, unfolding(state::specs::Meaning::transfer_of, views::specs::Row::views_of, views::specs::Row::row_of, rules::specs::Relays::fresh_transfer))]
 fn blank() -> Transfer
     ensures { transfer_of result ≡ fresh_transfer 0 0 }
@@ -98,6 +98,7 @@ fn kept_transfers(w: &[u8], at: usize, v: u16) -> [Transfer; rules::SEATS]
     kept
 }
 
+// (Like `image::put_notes` over rows of another kind, and not one function for both: what it shares with that is the `for`.)
 fn put_kept(w: &mut [u8], at: usize, kept: &[Transfer; rules::SEATS])
     requires { at + transfers_width ≤ length w.old }
     ensures { w.new ≡ placed w.old at (table transfer_bytes (fresh_transfer 0 0) 8 (map transfer_of kept.now)) }
