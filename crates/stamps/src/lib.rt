@@ -38,11 +38,12 @@ pub fn same(a: Stamp, b: Stamp) -> bool
     a == b
 }
 
-// "Wherever the greatest stamp is kept, of equal stamps the pair already held stays."
+// "Wherever the greatest stamp is kept, of equal stamps the pair already held stays." (Document 01 asks for the signed answer in the relay's store.)
 pub fn greatest(held: Pair, new: Pair) -> Pair
     ensures { result ≡ greatest_of held new }
 {
-    if new.stamp > held.stamp { new } else { held }
+    let order = compare(new.stamp, held.stamp);
+    if order == 1 { new } else { held }
 }
 
 // "Fresh record: stamp (0,0), value 0."

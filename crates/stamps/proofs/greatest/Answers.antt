@@ -1,13 +1,14 @@
 -- `stamps::greatest` meets its contract. Assumes nothing.
-use Rattle.std.proofs.Common.{◌∙◌}
+use mathlib.Core.Path.{sym, ◌∙◌}
+use borrow.Author.Tests.{eq-eqb, ne_eqb}
 use Rattle.stamps.specs.Stamp.{greatest_of}
-use Rattle.stamps.proofs.Derived.{greater_derived}
+use Rattle.stamps.proofs.Order.{greater_bits}
 use Rattle.stamps.proofs.greatest.Goals as goal
 
-pub returns-then-gt : goal.returns-then-gt
+pub returns-then-order-eq1 : goal.returns-then-order-eq1
 unfolding greatest_of
-returns-then-gt c = let e = c.gt.ensures ∙ greater_derived c.args.new.stamp c.args.held.stamp in rw (← e, c.if-gt.true)
+returns-then-order-eq1 c = rw (sym (greater_bits _ _ c.compare-order.ensures) ∙ eq-eqb _ _ c.if-order-eq1.true)
 
-pub returns-else-gt : goal.returns-else-gt
+pub returns-else-order-eq1 : goal.returns-else-order-eq1
 unfolding greatest_of
-returns-else-gt c = let e = c.gt.ensures ∙ greater_derived c.args.new.stamp c.args.held.stamp in rw (← e, c.if-gt.false)
+returns-else-order-eq1 c = rw (sym (greater_bits _ _ c.compare-order.ensures) ∙ ne_eqb _ _ c.if-order-eq1.false)
