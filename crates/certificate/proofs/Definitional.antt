@@ -1,7 +1,7 @@
 -- Demands 1 and 2 speak of programs that keep the promises of the sources (`Promised`): there is one, the definitions themselves. So the two are not about
 -- nothing.
 -- Assumes nothing.
-use Rattle.std.specs.Prelude.{◌&&◌}
+use Rattle.std.specs.Prelude.{◌&&◌, Result, Ok, Err}
 use mathlib.Core.Path.{◌≡◌, refl}
 use mathlib.Core.List.{List}
 use Prim.Native.Nat.{ℕ, ◌+◌, ◌-◌}
@@ -11,6 +11,8 @@ use Rattle.views.proofs.Truth.{cases}
 use Rattle.rules.specs.Messages.{Answer as RuleAnswer, refused, does, outgoing, Event, nothing, opened, read_done, write_done}
 use Rattle.rules.specs.State.{Relay, Place, free, waiting, World, place_at}
 use Rattle.rules.specs.declared.Desk.{Desk}
+use Rattle.rules.specs.declared.Refusal.{Refusal}
+use Rattle.rules.specs.declared.Refusal.TheVariants.{BadSheet, NoRoom}
 use Rattle.rules.specs.declared.Step.{Step}
 use Rattle.rules.specs.Steps.{Act, join, leave, timer, read, write, deliver, drop, crash, bad, told, Outcome, refusal, done, report, reports, roomy, relay_does, desk_does, alive_in, if_alive, freed, delivers, delivery, dropping, crashing, acts, stepped}
 use Rattle.layout.specs.Layout.{world_width}
@@ -18,8 +20,6 @@ use Rattle.layout.specs.Image.{world_at, good_bytes}
 use Rattle.layout.specs.Lent.{Lent, left, lent_step, lent_start}
 use Rattle.rules.specs.Sheets.{Written as Ruling, bad_sheet, no_room, wrote}
 use Rattle.rules.specs.Sheets as sheets
-use Rattle.sheet.specs.declared.Written.{Written}
-use Rattle.sheet.specs.declared.Written.TheVariants.{Done, BadSheet, NoRoom}
 use Rattle.sheet.specs.Reading.{check_of, taken_at}
 use Rattle.sheet.specs.Writing.{listed, ruled, ruled_size, size_in, buffer_of, number_of, size_of}
 use Rattle.world.specs.declared.Answer.{Answer}
@@ -122,10 +122,10 @@ start_sayable w mask =
     (λ _. sayable _ (made nothing 0))
 
 -- a ruling on a sheet of n bytes as the code's answer
-write_as : ℕ → Ruling → Written
-write_as n bad_sheet = BadSheet
-write_as n no_room = NoRoom
-write_as n (wrote l) = Done n
+write_as : ℕ → Ruling → Result ℕ Refusal
+write_as n bad_sheet = Err BadSheet
+write_as n no_room = Err NoRoom
+write_as n (wrote l) = Ok n
 
 write_says : (n : ℕ) (x : Ruling) → (number_of (write_as n x) ≡ sheets.number x) × (size_of (write_as n x) ≡ size_in n x)
 unfolding write_as

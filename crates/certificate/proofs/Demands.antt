@@ -1,6 +1,6 @@
 -- DEMANDS 1 and 2 (specs/Demand1, specs/Demand2), proved of every program that keeps the promises of the sources: `demand1`, `demand2`. (Demand 3 is
 -- `Safety.safety`, in crates/safety.) Assumes nothing.
-use Rattle.std.specs.Prelude.{if◌then◌else◌, ◌||◌}
+use Rattle.std.specs.Prelude.{if◌then◌else◌, ◌||◌, Option, None, Some, Result, Ok, Err}
 use mathlib.Core.Path.{◌≡◌, refl, sym, ap, subst, ◌∙◌}
 use mathlib.Core.Bool.{Bool, true, false, not}
 use mathlib.Core.List.{List, [], ◌∷◌, ◌++◌, map}
@@ -14,6 +14,8 @@ use Rattle.views.proofs.Truth.{contrary}
 use Rattle.rules.specs.Messages.{bad_step, number}
 use Rattle.rules.specs.Messages as refusals
 use Rattle.rules.specs.State.{World, start}
+use Rattle.rules.specs.declared.Refusal.{Refusal}
+use Rattle.rules.specs.declared.Refusal.TheVariants.{BadSheet}
 use Rattle.rules.specs.declared.Step.{Step}
 use Rattle.rules.specs.Steps.{Outcome, refusal, done, no_report, after, report, stepped}
 use Rattle.rules.specs.Table.{first_of, table}
@@ -30,8 +32,6 @@ use Rattle.rules.proofs.Order.{first_applies}
 use Rattle.rules.proofs.Starts.{start_good}
 use Rattle.layout.proofs.World.{good_formed, good_image}
 use Rattle.sheet.specs.declared.Sheet as checked
-use Rattle.sheet.specs.declared.Found.{Found}
-use Rattle.sheet.specs.declared.Found.TheVariants.{At, End}
 use Rattle.sheet.specs.Reading.{check_of, front_of, steps_from}
 use Rattle.sheet.specs.Writing.{listed, kinds_of, ids_of, values_of, unequal, ruled, ruled_size, size_in, buffer_of, number_of, size_of}
 use Rattle.rules.proofs.Sheets.{version1-known, size}
@@ -42,10 +42,12 @@ use Rattle.sheet.proofs.Back.{same_bytes, again, back, smalls}
 use Rattle.world.specs.declared.Answer.{Answer}
 use Rattle.rehearsal.specs.declared.Rehearsed.{Rehearsed}
 use Rattle.world.specs.Answer.{lent_of, columns, report_of}
-use Rattle.world.specs.Tracing.{Ruling, bad_world, bad_sheet, no_room, runs, room_for, number_by, world_by}
+use Rattle.world.specs.Tracing.{Ruling, bad_world, bad_sheet, no_room, runs, room_for, number_by, refused_by, world_by}
+use Rattle.engine.specs.Told.{number_told}
 use Rattle.rehearsal.specs.Playing.{decided, record_by, answer_by, laid_by, rehearse_answer, world_left, record_left}
 use Rattle.certificate.specs.Code.{Code, Promised}
-use Rattle.certificate.specs.Demand1.{Rows, BAD_SHEET, step_rows, start_rows, check_rows, write_rows, rehearse_rows, Numbered, refused_record, check_number, Demand1ForAll}
+use Rattle.certificate.specs.Demand1.{Rows, BAD_SHEET, step_rows, start_rows, check_rows, write_rows, rehearse_rows, Numbered, refused_record, Demand1ForAll}
+use Rattle.certificate.specs.Demand1.{check_number, rehearsed_number}
 use Rattle.certificate.specs.Demand2.{ran_by, told_by, before, read_from, read_by, Below, Demand2ForAll}
 use Rattle.certificate.specs.Demand2.{outcome_line}
 use Rattle.certificate.proofs.Demand2.{Program, ran, told, each_step}
@@ -128,8 +130,8 @@ module _ (w : List ℕ) (mask : ℕ) where
 -- ---- sheets: checked, read step by step, written
 
 module _ (b : List ℕ) where
-  abbrev checked_by : Bool → checked.Sheet
-  checked_by x = if x then record { bad = true; mask = 0; steps = 0 } else record { bad = false; mask = mask_in b; steps = steps_of b }
+  abbrev checked_by : Bool → Result checked.Sheet Refusal
+  checked_by x = if x then Err BadSheet else Ok (record { mask = mask_in b; steps = steps_of b })
 
   check_numbered : Numbered (check_number (check_of b)) (check_rows b)
   unfolding check_of
@@ -139,24 +141,26 @@ module _ (b : List ℕ) where
       go true = record { known = lit≤ tt; first = refl }
       go false = record { known = lit≤ tt; first = refl }
 
-  check_refused : 0 < check_number (check_of b) → ((check_of b).mask ≡ 0) × ((check_of b).steps ≡ 0)
+  check_refused : 0 < check_number (check_of b) → check_of b ≡ Err BadSheet
   unfolding check_of
   check_refused = go (is_bad_sheet b)
     where
-      go : (x : Bool) → 0 < check_number (checked_by x) → ((checked_by x).mask ≡ 0) × ((checked_by x).steps ≡ 0)
-      go true h = (refl, refl)
+      go : (x : Bool) → 0 < check_number (checked_by x) → checked_by x ≡ Err BadSheet
+      go true h = refl
       go false h = absurd (omega arith)
 
   -- what a check says of an accepted sheet
-  check_accepted : (check_of b).bad ≡ false → ((check_of b).mask ≡ mask_in b) × ((check_of b).steps ≡ steps_of b)
+  check_accepted : (s : checked.Sheet) → check_of b ≡ Ok s → (s.mask ≡ mask_in b) × (s.steps ≡ steps_of b)
       × (sheet_in b ≡ sheet (mask_in b) (steps_from b (front_of b)))
   unfolding check_of sheet_in steps_from
-  check_accepted = go (is_bad_sheet b)
+  check_accepted s = go (is_bad_sheet b)
     where
-      go : (x : Bool) → (checked_by x).bad ≡ false → ((checked_by x).mask ≡ mask_in b) × ((checked_by x).steps ≡ steps_of b)
+      go : (x : Bool) → checked_by x ≡ Ok s → (s.mask ≡ mask_in b) × (s.steps ≡ steps_of b)
           × ((if x then bad else sheet (mask_in b) (list_by (form_in b) b)) ≡ sheet (mask_in b) (list_by (form_in b) b))
-      go true e = absurd (contrary refl e)
-      go false e = (refl, refl, refl)
+      go true e = let z : ◌≡◌ {A = ℕ} 0 1 = cc in absurd (omega arith)
+      go false e =
+          let same : ◌≡◌ {A = checked.Sheet} (record { mask = mask_in b; steps = steps_of b }) s = cc in
+          (sym (ap (λ (x : checked.Sheet). x.mask) same), sym (ap (λ (x : checked.Sheet). x.steps) same), refl)
 
 sheet_bad : (b : List ℕ) → sheet_in b ≡ bad → is_bad_sheet b ≡ true
 unfolding sheet_in
@@ -205,6 +209,12 @@ module _ (w out : List ℕ) where
   ruling_known bad_sheet = lit≤ tt
   ruling_known no_room = lit≤ tt
   ruling_known (runs mask ks) = lit≤ tt
+
+  ruling_number : (x : Ruling) → number_told (refused_by x) ≡ number_by x
+  ruling_number bad_world = refl
+  ruling_number bad_sheet = refl
+  ruling_number no_room = refl
+  ruling_number (runs mask ks) = refl
 
   ruling_world : (x : Ruling) → 0 < number_by x → world_by w x ≡ w
   ruling_world bad_world h = refl
@@ -317,14 +327,17 @@ module _ (c : Code) (p : Promised c) where
   -- ---- a rehearsal
 
   module _ (b world out : List ℕ) where
-    rehearse_number : (c.rehearse b world out).answer ≡ number_by (decided b world out)
-    unfolding rehearse_answer answer_by
-    rehearse_number = ap (λ (r : Rehearsed). r.answer) (p.rehearse_answer_lem b world out)
+    abbrev says : ℕ
+    says = rehearsed_number (c.rehearse b world out)
 
-    rehearse_numbered : Numbered (c.rehearse b world out).answer (rehearse_rows b world out)
+    rehearse_number : says ≡ number_by (decided b world out)
+    unfolding rehearse_answer answer_by
+    rehearse_number = ap rehearsed_number (p.rehearse_answer_lem b world out) ∙ ruling_number world out (decided b world out)
+
+    rehearse_numbered : Numbered says (rehearse_rows b world out)
     rehearse_numbered = rw rehearse_number (record { known = ruling_known world out (decided b world out); first = rehearse_first b world out })
 
-    module _ (h : 0 < (c.rehearse b world out).answer) where
+    module _ (h : 0 < says) where
       refused : 0 < number_by (decided b world out)
       refused = omega (arith, rehearse_number)
 
@@ -332,11 +345,11 @@ module _ (c : Code) (p : Promised c) where
       unfolding world_left
       rehearse_world_kept = p.rehearse_last b world out ∙ ruling_world world out (decided b world out) refused
 
-      rehearse_out_kept : let l = refused_record (c.rehearse b world out).answer out in
+      rehearse_out_kept : let l = refused_record says out in
           (c.rehearse_out b world out ≡ l ++ drop (length l) out) × ((c.rehearse b world out).length ≡ length l)
       unfolding record_left laid_by rehearse_answer answer_by
       rehearse_out_kept =
-          let l : record_by (length out) (decided b world out) ≡ refused_record (c.rehearse b world out).answer out =
+          let l : record_by (length out) (decided b world out) ≡ refused_record says out =
           rw rehearse_number (ruling_record world out (decided b world out) refused)
           in (
             p.rehearse_printed b world out ∙ ap (λ (x : List ℕ). x ++ drop (length x) out) l,
@@ -344,7 +357,7 @@ module _ (c : Code) (p : Promised c) where
           )
 
     rehearsed : (mask : ℕ) (ks : List Step) → sheet_in b ≡ sheet mask ks → length world ≡ world_width → longest (length ks) ≤ length out
-        → ((c.rehearse b world out).answer ≡ 0)
+        → ((c.rehearse b world out).refused ≡ None)
         × ((c.rehearse b world out).length ≡ length (printed mask ks))
         × (c.rehearse_world b world out ≡ image (last_world (start mask) ks))
         × (c.rehearse_out b world out ≡ printed mask ks ++ drop (length (printed mask ks)) out)
@@ -352,7 +365,7 @@ module _ (c : Code) (p : Promised c) where
     rehearsed mask ks e long room =
         let is = rehearse_runs b world out mask ks e long room in
         let answer = p.rehearse_answer_lem b world out ∙ ap (answer_by out) is in (
-          ap (λ (r : Rehearsed). r.answer) answer,
+          ap (λ (r : Rehearsed). r.refused) answer,
           ap (λ (r : Rehearsed). r.length) answer,
           p.rehearse_last b world out ∙ ap (world_by world) is,
           p.rehearse_printed b world out ∙ ap (laid_by out) is,
@@ -367,17 +380,13 @@ module _ (c : Code) (p : Promised c) where
   read_all : (n : ℕ) (b : List ℕ) (at : ℕ) → length (steps_from b at) ≤ n → read_from c n b at ≡ steps_from b at
   unfolding read_from
   read_all zero b at h = none_left (steps_from b at) h
-  read_all (suc n) b at h = go (c.read_at b at).found refl (read_all n b (c.read_at b at).at)
+  read_all (suc n) b at h = go (c.read_at b at) refl
     where
-      past : ℕ
-      past = (c.read_at b at).at
-
-      go : (f : Found) → (c.read_at b at).found ≡ f → (length (steps_from b past) ≤ n → read_from c n b past ≡ steps_from b past)
-          → before f (read_from c n b past) ≡ steps_from b at
-      go (At k) e more =
-          let s = taken_step b at (c.read_at b at) (p.read_at_kept b at) k e in
-          ap (λ (l : List Step). k ∷ l) (more (omega (arith, ap length s))) ∙ sym s
-      go End e more = sym (taken_end b at (c.read_at b at) (p.read_at_kept b at) e)
+      go : (t : Option (Step × ℕ)) → c.read_at b at ≡ t → before t (read_from c n b) ≡ steps_from b at
+      go (Some (k, past)) e =
+          let s = taken_step b at (c.read_at b at) (p.read_at_kept b at) k past e in
+          ap (λ (l : List Step). k ∷ l) (read_all n b past (omega (arith, ap length s))) ∙ sym s
+      go None e = sym (taken_end b at (c.read_at b at) (p.read_at_kept b at) e)
 
   read_sheet : (b : List ℕ) (mask : ℕ) (ks : List Step) → sheet_in b ≡ sheet mask ks → read_by c b ≡ ks
   read_sheet b mask ks e =
@@ -386,24 +395,22 @@ module _ (c : Code) (p : Promised c) where
       let fewer = div-le_self (length b - front_of b) (step_width (form_in b)) in
       read_all (length b) b (front_of b) (omega (arith, ap length all, count b mask ks a, fewer)) ∙ all
 
-  sheet_read : (b : List ℕ) → (c.check b).bad ≡ false → (sheet_in b ≡ sheet (c.check b).mask (read_by c b)) × ((c.check b).steps ≡ length (read_by c b))
-  sheet_read b h =
-      let e = p.check_kept b in
-      let a = check_accepted b (sym (ap (λ (s : checked.Sheet). s.bad) e) ∙ h) in
-      let mask_is : (c.check b).mask ≡ mask_in b = ap (λ (s : checked.Sheet). s.mask) e ∙ a.0 in
+  sheet_read : (b : List ℕ) (s : checked.Sheet) → c.check b ≡ Ok s → (sheet_in b ≡ sheet s.mask (read_by c b)) × (s.steps ≡ length (read_by c b))
+  sheet_read b s h =
+      let a = check_accepted b s (sym (p.check_kept b) ∙ h) in
       let ks : List Step = steps_from b (front_of b) in
       let ks-is : read_by c b ≡ ks = read_sheet b (mask_in b) ks a.2 in
       let many : steps_of b ≡ length ks = count b (mask_in b) ks (accepted b (mask_in b) ks a.2) in
-      (rw (mask_is, ks-is) a.2, ap (λ (s : checked.Sheet). s.steps) e ∙ a.1 ∙ many ∙ ap length (sym ks-is))
+      (rw (a.0, ks-is) a.2, a.1 ∙ many ∙ ap length (sym ks-is))
 
-  sheet_again : (b buf : List ℕ) → Below 256 b → (c.check b).bad ≡ false → length b ≤ length buf
-      → let ks = read_by c b in let r = c.write buf (c.check b).mask (kinds_of ks) (ids_of ks) (values_of ks) in
-      (number_of r ≡ 0) × (size_of r ≡ length b) × (c.write_buf buf (c.check b).mask (kinds_of ks) (ids_of ks) (values_of ks) ≡ b ++ drop (length b) buf)
+  sheet_again : (b buf : List ℕ) (s : checked.Sheet) → Below 256 b → c.check b ≡ Ok s → length b ≤ length buf
+      → let ks = read_by c b in let r = c.write buf s.mask (kinds_of ks) (ids_of ks) (values_of ks) in
+      (number_of r ≡ 0) × (size_of r ≡ length b) × (c.write_buf buf s.mask (kinds_of ks) (ids_of ks) (values_of ks) ≡ b ++ drop (length b) buf)
   unfolding form_of
-  sheet_again b buf each h fits =
-      let mask : ℕ = (c.check b).mask in
+  sheet_again b buf s each h fits =
+      let mask : ℕ = s.mask in
       let ks : List Step = read_by c b in
-      let is : sheet_in b ≡ sheet mask ks = (sheet_read b h).0 in
+      let is : sheet_in b ≡ sheet mask ks = (sheet_read b s h).0 in
       let wrote_is : ruled buf mask (kinds_of ks) (ids_of ks) (values_of ks) ≡ wrote (b ++ drop (length b) buf) =
       ruled_list buf mask ks ∙ again b buf mask ks each is fits
       in
@@ -446,15 +453,15 @@ module _ (c : Code) (p : Promised c) where
         ∙ ap (λ (n : ℕ). sheet_in (take (sheet_width version1 n) (buffer_of buf (written version1 buf mask steps)))) (sym long)
         ∙ back version1 version1-known buf mask steps some (omega (arith, long)) (smalls version1 kinds ids values hk hi hv) (omega (arith, long))
 
-    check_is : c.check sent ≡ record { bad = false; mask = mask; steps = length kinds }
+    check_is : c.check sent ≡ Ok (record { mask = mask; steps = length kinds })
     unfolding check_of
     check_is =
         let a = accepted sent mask steps sent_is in
         let n : steps_of sent ≡ length kinds = count sent mask steps a ∙ long in
-        p.check_kept sent ∙ rw a.good (λ i. record { bad = false; mask = a.masked i; steps = n i })
+        p.check_kept sent ∙ rw a.good (λ i. Ok (record { mask = a.masked i; steps = n i }))
 
     sheet_back : (number_of (c.write buf mask kinds ids values) ≡ 0) × (size_of (c.write buf mask kinds ids values) ≡ sheet_width version1 (length kinds))
-        × (c.check sent ≡ record { bad = false; mask = mask; steps = length kinds })
+        × (c.check sent ≡ Ok (record { mask = mask; steps = length kinds }))
         × (kinds_of (read_by c sent) ≡ kinds) × (ids_of (read_by c sent) ≡ ids) × (values_of (read_by c sent) ≡ values)
     sheet_back =
         let s = sliced kinds ids values same alike in

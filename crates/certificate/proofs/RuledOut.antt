@@ -1,7 +1,7 @@
 -- Wrong programs that the promises rule out, two or more for every public function: views, stamps, rows and rules. Each line says that the promise, with a
 -- wrong program in the place of the result, does not hold for every input; its name says what the program does; its proof names an input at which the two
 -- differ, one that the function's parameters can have, and the difference is computed. Assumes nothing.
-use Rattle.std.specs.Prelude.{if◌then◌else◌}
+use Rattle.std.specs.Prelude.{if◌then◌else◌, Result, Ok, Err}
 use mathlib.Core.Path.{◌≡◌}
 use mathlib.Core.Bool.{true, not, ◌&&◌, cond}
 use mathlib.Core.List.{List, [], ◌∷◌, ◌++◌}
@@ -20,15 +20,22 @@ use Rattle.stamps.specs.Stamp.{sign_of, compared_of, greater_of, greatest_of, fr
 use Rattle.stamps.specs.Stamp as stamps
 use Rattle.stamps.specs.declared.Stamp.{Stamp}
 use Rattle.stamps.specs.declared.Pair.{Pair}
-use Rattle.rows.specs.Bytes.{splice, placed, bytes_of, fields_of, number_at, be16, u16_at, u32_at, run, zeros}
+use Rattle.rows.specs.Bytes.{splice, placed, bytes_of, field_bytes, fields_of, number_at, be16, u16_at, u32_at, run, zeros}
 use Rattle.rows.specs.Tests.{all, all_zero}
+use Rattle.rows.specs.declared.Field.{Field}
+use Rattle.rows.specs.declared.Field.TheVariants.{Byte}
+use Rattle.rules.specs.Coded.{number_of, kind_number, kind_told}
+use Rattle.rules.specs.declared.Refusal.{Refusal}
+use Rattle.rules.specs.declared.Refusal.TheVariants.{BadWorld, BadStep, BadSheet}
+use Rattle.rules.specs.declared.StepKind.{StepKind}
+use Rattle.rules.specs.declared.StepKind.TheVariants.{Crash}
 use Rattle.rules.specs.Desks.{cleared, begun, ended}
 use Rattle.layout.specs.Image.{phase_number}
 use Rattle.rules.specs.declared.Desk.{Desk}
 use Rattle.rules.specs.declared.Phase.{Phase}
 use Rattle.rules.specs.declared.Phase.TheVariants.{Idle, Read1}
 use Rattle.certificate.proofs.Differ.{differ, itself, truth, entry}
-use Rattle.certificate.proofs.Typed.{in_bytes, in_u16, in_u32s, in_u8, in_usize, in_Desk, in_Pair, in_Sequence, in_Stamp}
+use Rattle.certificate.proofs.Typed.{in_bytes, in_u16, in_u8, in_usize, slice, in_Desk, in_Field, in_Pair, in_Sequence, in_Stamp}
 
 -- ---- views
 
@@ -356,15 +363,15 @@ pub rows_clear_to_the_end : ¬ ((s : List ℕ) (at n : ℕ) → T (in_bytes s) �
 unfolding placed splice run zeros
 rows_clear_to_the_end p = differ (entry 1) (p (7 ∷ 7 ∷ []) 0 1 tt tt tt) tt
 
-pub rows_put_fields_the_next_number : ¬ ((s : List ℕ) (at : ℕ) (widths xs : List ℕ) → T (in_bytes s) → T (in_usize at) → T (in_bytes widths) → T (in_u32s xs)
-    → placed s at (fields_of widths (drop 1 xs)) ≡ placed s at (fields_of widths xs))
-unfolding placed splice bytes_of fields_of
-rows_put_fields_the_next_number p = differ (entry 0) (p (0 ∷ []) 0 (1 ∷ []) (7 ∷ []) tt tt tt tt) tt
+pub rows_put_fields_all_but_the_first : ¬ ((s : List ℕ) (at : ℕ) (fields : List Field) → T (in_bytes s) → T (in_usize at) → T (slice in_Field fields)
+    → placed s at (fields_of (drop 1 fields)) ≡ placed s at (fields_of fields))
+unfolding placed splice field_bytes fields_of
+rows_put_fields_all_but_the_first p = differ (entry 0) (p (0 ∷ []) 0 (Byte 7 ∷ []) tt tt tt) tt
 
-pub rows_put_fields_the_first_alone : ¬ ((s : List ℕ) (at : ℕ) (widths xs : List ℕ) → T (in_bytes s) → T (in_usize at) → T (in_bytes widths) → T (in_u32s xs)
-    → placed s at (fields_of (take 1 widths) xs) ≡ placed s at (fields_of widths xs))
-unfolding placed splice bytes_of fields_of
-rows_put_fields_the_first_alone p = differ (entry 1) (p (0 ∷ 0 ∷ []) 0 (1 ∷ 1 ∷ []) (7 ∷ 8 ∷ []) tt tt tt tt) tt
+pub rows_put_fields_the_first_alone : ¬ ((s : List ℕ) (at : ℕ) (fields : List Field) → T (in_bytes s) → T (in_usize at) → T (slice in_Field fields)
+    → placed s at (fields_of (take 1 fields)) ≡ placed s at (fields_of fields))
+unfolding placed splice field_bytes fields_of
+rows_put_fields_the_first_alone p = differ (entry 1) (p (0 ∷ 0 ∷ []) 0 (Byte 7 ∷ Byte 8 ∷ []) tt tt tt) tt
 
 pub rows_read_u16_low_byte_first : ¬ ((s : List ℕ) (at : ℕ) → T (in_bytes s) → T (in_usize at) → get_or s (at + 1) 0 * 256 + get_or s at 0 ≡ u16_at s at)
 unfolding number_at
@@ -391,6 +398,26 @@ unfolding all all_zero
 rows_is_zero_one_too_many p = differ truth (p (0 ∷ 1 ∷ []) 0 1 tt tt tt) tt
 
 -- ---- rules
+
+pub rules_number_of_no_table : ¬ ((self : Refusal) → 1 ≡ number_of self)
+rules_number_of_no_table p = differ itself (p BadSheet) tt
+
+pub rules_number_counted_from_zero : ¬ ((self : Refusal) → number_of self - 1 ≡ number_of self)
+rules_number_counted_from_zero p = differ itself (p BadWorld) tt
+
+-- the number of a kind, and 0 of a refusal
+abbrev kind_as : Result StepKind Refusal → ℕ
+kind_as (Ok k) = kind_number k
+kind_as (Err x) = 0
+
+pub rules_step_kind_try_from_refused_always : ¬ ((number : ℕ) → T (in_u8 number) → Err BadStep ≡ kind_told number)
+unfolding kind_told
+rules_step_kind_try_from_refused_always p = differ kind_as (p 1 tt) tt
+
+pub rules_step_kind_try_from_a_crash_of_any_other : ¬ ((number : ℕ) → T (in_u8 number)
+    → (if eqb number 0 then Ok Crash else kind_told number) ≡ kind_told number)
+unfolding kind_told
+rules_step_kind_try_from_a_crash_of_any_other p = differ kind_as (p 0 tt) tt
 
 -- a desk in read 1 of try 5, to which relay 0 has replied
 abbrev reading : Desk

@@ -1,5 +1,7 @@
 -- Wrong programs that the promises rule out: sheet and record. Assumes nothing.
-use Rattle.std.specs.Prelude.{if◌then◌else◌}
+use Rattle.std.specs.Prelude.{if◌then◌else◌, Option, None, Some, Result, Ok, Err}
+use Rattle.std.specs.Iterator.{YieldsFirst}
+use Rattle.std.specs.Option.{option_map}
 use mathlib.Core.Path.{◌≡◌}
 use mathlib.Core.Bool.{true, false, not, ◌&&◌}
 use mathlib.Core.List.{List, [], ◌∷◌, ◌++◌}
@@ -12,15 +14,13 @@ use Rattle.rows.specs.Tests.{all, all_zero}
 use Rattle.rules.specs.Sheets.{version1, form_of, value_at, step_width, step_in, all_zeros_in, steps_bytes, mark, mask_at, mask_in, header_width}
 use Rattle.rules.specs.Sheets.{steps_of, is_bad_sheet, sheet_bytes, number, written}
 use Rattle.rules.specs.Runs.{digits, decimal, line, start_word, bad_word, start_of, end_of, bad_of}
-use Rattle.sheet.specs.Reading.{check_of, front_of, step_at, after_of, taken_at}
+use Rattle.sheet.specs.Reading.{check_of, front_of, step_at, after_of, taken_at, steps_left}
 use Rattle.sheet.specs.Writing.{listed, ruled, ruled_size, buffer_of, number_of, size_of}
 use Rattle.sheet.specs.declared.Sheet.{Sheet}
-use Rattle.sheet.specs.declared.Found.{Found}
-use Rattle.sheet.specs.declared.Found.TheVariants.{At, End}
 use Rattle.sheet.specs.declared.reader.Reader.{Reader}
-use Rattle.sheet.specs.declared.reader.Taken.{Taken}
-use Rattle.sheet.specs.declared.Written.{Written}
-use Rattle.sheet.specs.declared.Written.TheVariants.{Done, BadSheet, NoRoom}
+use Rattle.rules.specs.declared.Refusal.{Refusal}
+use Rattle.rules.specs.declared.Refusal.TheVariants.{NoRoom, BadSheet}
+use Rattle.rules.specs.declared.Step.{Step}
 use Rattle.record.specs.Lines.{laid, past, step_of}
 use Rattle.certificate.proofs.Differ.{differ, itself, truth, entry}
 use Rattle.certificate.proofs.Typed.{in_bytes, in_u16, in_u32, in_u32s, in_u8, in_usize, in_Reader}
@@ -31,22 +31,23 @@ use Rattle.certificate.proofs.Typed.{in_bytes, in_u16, in_u32, in_u32s, in_u8, i
 abbrev pub headed : List ℕ → List ℕ
 headed rest = mark ++ (0 ∷ 1 ∷ rest)
 
-abbrev is_bad : Sheet → ℕ
-is_bad s = truth s.bad
+abbrev is_bad : Result Sheet Refusal → ℕ
+is_bad (Ok s) = 0
+is_bad (Err x) = 1
 
 -- a sheet that would be good with mask 1
 pub sheet_check_mask_0_accepted : ¬ ((b : List ℕ) → T (in_bytes b)
-    → (if eqb (mask_in b) 0 && not (is_bad_sheet (set b mask_at 1)) then record { bad = false; mask = 0; steps = steps_of b } else check_of b) ≡ check_of b)
+    → (if eqb (mask_in b) 0 && not (is_bad_sheet (set b mask_at 1)) then Ok (record { mask = 0; steps = steps_of b }) else check_of b) ≡ check_of b)
 unfolding all_zeros_in all_zero all form_of number_at check_of
 sheet_check_mask_0_accepted p = differ is_bad (p (headed (0 ∷ [])) tt) tt
 
-pub sheet_check_refused_always : ¬ ((b : List ℕ) → T (in_bytes b) → record { bad = true; mask = 0; steps = 0 } ≡ check_of b)
+pub sheet_check_refused_always : ¬ ((b : List ℕ) → T (in_bytes b) → Err BadSheet ≡ check_of b)
 unfolding all_zeros_in all_zero all form_of number_at check_of
 sheet_check_refused_always p = differ is_bad (p (headed (1 ∷ [])) tt) tt
 
-abbrev found : Found → ℕ
-found End = 0
-found (At k) = 1 + k.value
+abbrev found : Option Step → ℕ
+found None = 0
+found (Some k) = 1 + k.value
 
 -- two steps, WRITE 0 1 and WRITE 0 2
 abbrev steps : List ℕ
@@ -61,13 +62,13 @@ abbrev low_first : List ℕ → ℕ → ℕ
 low_first b at = ((get_or b (at + 3) 0 * 256 + get_or b (at + 2) 0) * 256 + get_or b (at + 1) 0) * 256 + get_or b at 0
 
 pub sheet_step_at_low_byte_first : ¬ ((b : List ℕ) (at : ℕ) → T (in_bytes b) → T (in_usize at)
-    → (if leb (at + step_width version1) (length b) then At (record { kind = get_or b at 0; id = get_or b (at + 1) 0; value = low_first b (at + value_at version1) })
-    else End)
+    → (if leb (at + step_width version1) (length b) then Some (record { kind = get_or b at 0; id = get_or b (at + 1) 0; value = low_first b (at + value_at version1) })
+    else None)
     ≡ step_at b at)
 unfolding step_at number_at form_of
 sheet_step_at_low_byte_first p = differ found (p steps 0 tt tt) tt
 
-pub sheet_step_at_past_the_end : ¬ ((b : List ℕ) (at : ℕ) → T (in_bytes b) → T (in_usize at) → At (step_in version1 (drop at b)) ≡ step_at b at)
+pub sheet_step_at_past_the_end : ¬ ((b : List ℕ) (at : ℕ) → T (in_bytes b) → T (in_usize at) → Some (step_in version1 (drop at b)) ≡ step_at b at)
 unfolding step_at number_at form_of
 sheet_step_at_past_the_end p = differ found (p steps 16 tt tt) tt
 
@@ -83,16 +84,18 @@ sheet_after_past_the_end p = differ itself (p steps 16 tt tt) tt
 abbrev sizes : ℕ → List ℕ → List ℕ → List ℕ → ℕ
 sizes mask kinds ids values = length (sheet_bytes version1 mask (listed kinds ids values))
 
-abbrev shortest : List ℕ → ℕ → List ℕ → List ℕ → List ℕ → Written
+abbrev shortest : List ℕ → ℕ → List ℕ → List ℕ → List ℕ → Result ℕ Refusal
 shortest buf mask kinds ids values =
-    if eqb mask 0 then BadSheet else if ltb (length buf) (sizes mask kinds ids values) then NoRoom else Done (sizes mask kinds ids values)
+    if eqb mask 0 then Err BadSheet
+    else if ltb (length buf) (sizes mask kinds ids values) then Err NoRoom
+    else Ok (sizes mask kinds ids values)
 
 -- NO ROOM first
-abbrev room_first : List ℕ → ℕ → List ℕ → List ℕ → List ℕ → Written
-room_first buf mask kinds ids values = if ltb (length buf) (sizes mask kinds ids values) then NoRoom else shortest buf mask kinds ids values
+abbrev room_first : List ℕ → ℕ → List ℕ → List ℕ → List ℕ → Result ℕ Refusal
+room_first buf mask kinds ids values = if ltb (length buf) (sizes mask kinds ids values) then Err NoRoom else shortest buf mask kinds ids values
 
 pub sheet_write_answer_done_always : ¬ ((buf : List ℕ) (mask : ℕ) (kinds ids values : List ℕ) → T (in_bytes buf) → T (in_u8 mask) → T (in_bytes kinds) → T (in_bytes ids) → T (in_u32s values)
-    → (number_of (Done (sizes mask kinds ids values)) ≡ number (ruled buf mask kinds ids values)) × (size_of (Done (sizes mask kinds ids values)) ≡ ruled_size buf mask kinds ids values))
+    → (number_of (Ok (sizes mask kinds ids values)) ≡ number (ruled buf mask kinds ids values)) × (size_of (Ok (sizes mask kinds ids values)) ≡ ruled_size buf mask kinds ids values))
 unfolding steps_bytes sheet_bytes written listed ruled bytes_of
 sheet_write_answer_done_always p = differ itself (p [] 1 [] [] [] tt tt tt tt tt).0 tt
 
@@ -108,8 +111,8 @@ unfolding steps_bytes sheet_bytes written listed ruled bytes_of
 sheet_write_answer_the_shortest_counts p = differ itself (p (replicate 7 9) 1 (5 ∷ []) (0 ∷ []) [] tt tt tt tt tt).0 tt
 
 pub sheet_write_answer_size_of_the_buffer : ¬ ((buf : List ℕ) (mask : ℕ) (kinds ids values : List ℕ) → T (in_bytes buf) → T (in_u8 mask) → T (in_bytes kinds) → T (in_bytes ids) → T (in_u32s values)
-    → (number_of (if ltb (length buf) (header_width version1) then NoRoom else Done (length buf)) ≡ number (ruled buf mask kinds ids values))
-    × (size_of (if ltb (length buf) (header_width version1) then NoRoom else Done (length buf)) ≡ ruled_size buf mask kinds ids values))
+    → (number_of (if ltb (length buf) (header_width version1) then Err NoRoom else Ok (length buf)) ≡ number (ruled buf mask kinds ids values))
+    × (size_of (if ltb (length buf) (header_width version1) then Err NoRoom else Ok (length buf)) ≡ ruled_size buf mask kinds ids values))
 unfolding steps_bytes sheet_bytes written listed ruled ruled_size bytes_of
 sheet_write_answer_size_of_the_buffer p = differ itself (p (replicate 7 9) 1 [] [] [] tt tt tt tt tt).1 tt
 
@@ -143,32 +146,46 @@ pub sheet_new_past_the_first_step : ¬ ((sheet : Bor (List ℕ)) → T (in_bytes
     → ((reader sheet 14).sheet ≡ sheet) × ((reader sheet 14).at ≡ front_of sheet.now))
 sheet_new_past_the_first_step p = differ itself (p lent tt).1 tt
 
-pub sheet_next_the_first_again : ¬ ((r : Reader) → T (in_Reader r) → step_at r.sheet.now (front_of r.sheet.now) ≡ step_at r.sheet.now r.at)
+-- a reader that gives this, and leaves that
+abbrev NextGives : Reader → Option Step → Reader → Type 0
+NextGives s r t = (r ≡ step_at s.sheet.now s.at) × ((t.sheet ≡ s.sheet) × (t.at ≡ after_of s.sheet.now s.at)) × YieldsFirst steps_left s r t
+
+pub sheet_reader_next_the_first_again : ¬ ((self : Reader) → T (in_Reader self)
+    → NextGives self (step_at self.sheet.now (front_of self.sheet.now)) (reader self.sheet (after_of self.sheet.now self.at)))
 unfolding step_at number_at form_of
-sheet_next_the_first_again p = differ found (p (reader lent 14) tt) tt
+sheet_reader_next_the_first_again p = differ found (p (reader lent 14) tt).0 tt
 
-pub sheet_next_the_one_after : ¬ ((r : Reader) → T (in_Reader r) → step_at r.sheet.now (r.at + step_width version1) ≡ step_at r.sheet.now r.at)
+pub sheet_reader_next_the_one_after : ¬ ((self : Reader) → T (in_Reader self)
+    → NextGives self (step_at self.sheet.now (self.at + step_width version1)) (reader self.sheet (after_of self.sheet.now self.at)))
 unfolding step_at number_at form_of
-sheet_next_the_one_after p = differ found (p (reader lent 6) tt) tt
+sheet_reader_next_the_one_after p = differ found (p (reader lent 6) tt).0 tt
 
-pub sheet_moved_not_at_all : ¬ ((r : Reader) → T (in_Reader r) → (r.sheet ≡ r.sheet) × (r.at ≡ after_of r.sheet.now r.at))
+pub sheet_reader_next_not_moved : ¬ ((self : Reader) → T (in_Reader self) → NextGives self (step_at self.sheet.now self.at) self)
 unfolding after_of form_of
-sheet_moved_not_at_all p = differ itself (p (reader lent 6) tt).1 tt
+sheet_reader_next_not_moved p = differ itself (p (reader lent 6) tt).1.1 tt
 
-pub sheet_moved_past_the_end : ¬ ((r : Reader) → T (in_Reader r)
-    → ((reader r.sheet (r.at + step_width version1)).sheet ≡ r.sheet)
-    × ((reader r.sheet (r.at + step_width version1)).at ≡ after_of r.sheet.now r.at))
+pub sheet_reader_next_moved_past_the_end : ¬ ((self : Reader) → T (in_Reader self)
+    → NextGives self (step_at self.sheet.now self.at) (reader self.sheet (self.at + step_width version1)))
 unfolding after_of form_of
-sheet_moved_past_the_end p = differ itself (p (reader lent 22) tt).1 tt
+sheet_reader_next_moved_past_the_end p = differ itself (p (reader lent 22) tt).1.1 tt
+
+-- of what is read at a position: the step's value, and the position past it
+abbrev value_read : Option (Step × ℕ) → ℕ
+value_read None = 0
+value_read (Some (k, past)) = 1 + k.value
+
+abbrev past_read : Option (Step × ℕ) → ℕ
+past_read None = 0
+past_read (Some (k, past)) = past
 
 pub sheet_read_at_the_front_always : ¬ ((sheet : List ℕ) (at : ℕ) → T (in_bytes sheet) → T (in_usize at) → taken_at sheet 0 ≡ taken_at sheet at)
-unfolding step_at after_of taken_at number_at form_of
-sheet_read_at_the_front_always p = differ (λ (t : Taken). found t.found) (p steps 8 tt tt) tt
+unfolding taken_at number_at form_of
+sheet_read_at_the_front_always p = differ value_read (p steps 8 tt tt) tt
 
 pub sheet_read_at_without_moving : ¬ ((sheet : List ℕ) (at : ℕ) → T (in_bytes sheet) → T (in_usize at)
-    → record { found = step_at sheet at; at = at } ≡ taken_at sheet at)
-unfolding step_at after_of taken_at form_of
-sheet_read_at_without_moving p = differ (λ (t : Taken). t.at) (p steps 0 tt tt) tt
+    → option_map (λ (k : Step). (k, at)) (step_at sheet at) ≡ taken_at sheet at)
+unfolding step_at taken_at form_of
+sheet_read_at_without_moving p = differ past_read (p steps 0 tt tt) tt
 
 -- ---- record; a buffer of 20 bytes
 

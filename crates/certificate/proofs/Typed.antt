@@ -1,6 +1,7 @@
 -- What a parameter of a type can be: a test for each type that a public function takes, so that a wrong program is refuted at an input that the function can
--- have. A struct passes where each of its fields does, an array where it has its length and each entry passes; a `bool`, and a choice without fields, always
--- does. (checks/total compares each with the source's declaration.) Assumes nothing.
+-- have. A struct passes where each of its fields does, an array where it has its length and each entry passes, an option where what it holds passes; a `bool`, and a choice without
+-- fields, always does. (checks/total compares each with the source's declaration.) Assumes nothing.
+use Rattle.std.specs.Prelude.{Option, None, Some}
 use mathlib.Core.Bool.{Bool, true, ◌&&◌}
 use mathlib.Core.List.{List, [], ◌∷◌}
 use Prim.Native.Nat.{ℕ}
@@ -9,6 +10,8 @@ use lib.ListN.{length}
 use Rattle.views.specs.declared.Sequence.{Sequence}
 use Rattle.stamps.specs.declared.Stamp.{Stamp}
 use Rattle.stamps.specs.declared.Pair.{Pair}
+use Rattle.rows.specs.declared.Field.{Field}
+use Rattle.rows.specs.declared.Field.TheVariants.{Flag, Byte, U16, U32, Zeros}
 use Rattle.rules.specs.declared.Desk.{Desk}
 use Rattle.rules.specs.declared.Step.{Step}
 use Rattle.state.specs.declared.Notes.{Notes}
@@ -57,6 +60,12 @@ in_bytes l = slice in_u8 l
 abbrev pub in_u32s : List ℕ → Bool
 in_u32s l = slice in_u32 l
 
+-- ---- what may be there or not
+
+abbrev pub in_option : {A : Type 0} → (A → Bool) → Option A → Bool
+in_option f None = true
+in_option f (Some x) = f x
+
 -- ---- structs
 
 abbrev pub in_Sequence : Sequence → Bool
@@ -67,6 +76,13 @@ in_Stamp x = in_u16 x.count && in_u8 x.desk
 
 abbrev pub in_Pair : Pair → Bool
 in_Pair x = in_Stamp x.stamp && in_u32 x.value
+
+abbrev pub in_Field : Field → Bool
+in_Field (Flag x0) = true
+in_Field (Byte x0) = in_u8 x0
+in_Field (U16 x0) = in_u16 x0
+in_Field (U32 x0) = in_u32 x0
+in_Field (Zeros x0) = in_u8 x0
 
 abbrev pub in_Desk : Desk → Bool
 in_Desk x = in_u16 x.view && in_u16 x.tries && in_Pair x.holds && in_u8 x.replied && in_Pair x.best
@@ -89,7 +105,7 @@ abbrev pub in_Head : Head → Bool
 in_Head x = in_u16 x.view && in_u16 x.known && in_u16 x.pending && in_Pair x.holds
 
 abbrev pub in_Part : Part → Bool
-in_Part x = in_Head x.head && in_Generator x.generator && in_Transfer x.transfer
+in_Part x = in_Head x.head && in_option in_Generator x.generator && in_option in_Transfer x.transfer
 
 abbrev pub in_Body : Body → Bool
 in_Body x =

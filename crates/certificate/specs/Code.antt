@@ -2,13 +2,12 @@
 -- `Promised` is what their sources promise, word for word (checks/total compares them). What a slice cannot hold, the code is never handed:
 -- docs/DECISIONS.md, 46.
 -- Assumes nothing.
-use Rattle.std.specs.Prelude.{◌≡◌, List, ℕ}
+use Rattle.std.specs.Prelude.{◌≡◌, List, Option, Result, ℕ}
+use Rattle.rules.specs.declared.Refusal.{Refusal}
 use Rattle.rules.specs.declared.Step.{Step}
 use Rattle.layout.specs.Lent.{lent_start, lent_step}
 use Rattle.rules.specs.Sheets.{number}
 use Rattle.sheet.specs.declared.Sheet.{Sheet}
-use Rattle.sheet.specs.declared.Written.{Written}
-use Rattle.sheet.specs.declared.reader.Taken.{Taken}
 use Rattle.sheet.specs.Reading.{check_of, taken_at}
 use Rattle.sheet.specs.Writing.{ruled, ruled_size, buffer_of, number_of, size_of}
 use Rattle.world.specs.declared.Answer.{Answer}
@@ -22,11 +21,11 @@ pub record Code : Type 0 where
   pub step_world : (w : List ℕ) (k : Step) → List ℕ
   pub start : (w : List ℕ) (mask : ℕ) → Answer
   pub start_world : (w : List ℕ) (mask : ℕ) → List ℕ
-  -- sheet::check, and sheet::reader::read_at: one step, and the position past it
-  pub check : (b : List ℕ) → Sheet
-  pub read_at : (sheet : List ℕ) (at : ℕ) → Taken
+  -- sheet::check, and sheet::reader::read_at: one step, and the position past it, if one is left
+  pub check : (b : List ℕ) → Result Sheet Refusal
+  pub read_at : (sheet : List ℕ) (at : ℕ) → Option (Step × ℕ)
   -- sheet::write: the answer, and the buffer afterwards
-  pub write : (buf : List ℕ) (mask : ℕ) (kinds ids values : List ℕ) → Written
+  pub write : (buf : List ℕ) (mask : ℕ) (kinds ids values : List ℕ) → Result ℕ Refusal
   pub write_buf : (buf : List ℕ) (mask : ℕ) (kinds ids values : List ℕ) → List ℕ
   -- rehearsal::rehearse: the answer, and both buffers afterwards
   pub rehearse : (sheet world out : List ℕ) → Rehearsed

@@ -1,8 +1,11 @@
 -- DEMAND 1, as a type over programs: every step, start or sheet handed in, with any bytes, gets a number of document 01's table, the first of the rows that
 -- applies; and any answer but 0 changes no byte of a lent buffer (but that a bad sheet's record is `bad 9`) and reports nothing. (That the work always ends is in the language: a proved function ends.)
 -- Assumes nothing.
-use Rattle.std.specs.Prelude.{◌≡◌, Bool, not, List, [], ◌∷◌, ◌++◌, ℕ, ◌≤◌, ◌<◌, eqb, leb, ltb, length, drop, if◌then◌else◌, ◌||◌}
+use Rattle.std.specs.Prelude.{◌≡◌, Bool, not, List, [], ◌∷◌, ◌++◌, Result, Ok, Err, ℕ, ◌≤◌, ◌<◌, eqb, leb, ltb, length, drop, if◌then◌else◌, ◌||◌}
 use Rattle.rules.specs.Messages.{bad_world, bad_step, no_room, number}
+use Rattle.rules.specs.Coded as coded
+use Rattle.rules.specs.declared.Refusal.{Refusal}
+use Rattle.rules.specs.declared.Refusal.TheVariants.{BadSheet}
 use Rattle.rules.specs.declared.Step.{Step}
 use Rattle.rules.specs.Steps.{no_report}
 use Rattle.rules.specs.Table.{first_of, table}
@@ -14,6 +17,8 @@ use Rattle.rules.specs.Runs.{longest, bad_of}
 use Rattle.sheet.specs.declared.Sheet.{Sheet}
 use Rattle.sheet.specs.Writing.{unequal, number_of, size_of}
 use Rattle.world.specs.Answer.{report_of}
+use Rattle.rehearsal.specs.declared.Rehearsed.{Rehearsed}
+use Rattle.engine.specs.Told.{number_told}
 use Rattle.certificate.specs.Code.{Code, Promised}
 
 -- ---- the rows of document 01's table that a call can meet, in the order in which they are checked
@@ -62,9 +67,13 @@ pub record Numbered (answer : ℕ) (rows : Rows) : Type 0 where
 abbrev pub refused_record : ℕ → List ℕ → List ℕ
 refused_record answer out = if eqb answer BAD_SHEET then (if ltb (length out) (length bad_of) then [] else bad_of) else []
 
--- the number of a check's answer
-abbrev pub check_number : Sheet → ℕ
-check_number s = if s.bad then BAD_SHEET else 0
+-- the number of a check's answer, and of a rehearsal's: the refusal's, or 0
+abbrev pub check_number : Result Sheet Refusal → ℕ
+check_number (Ok s) = 0
+check_number (Err x) = coded.number_of x
+
+abbrev pub rehearsed_number : Rehearsed → ℕ
+rehearsed_number r = number_told r.refused
 
 pub record Demand1 (c : Code) : Type 0 where
   pub step : (w : List ℕ) (k : Step) → Numbered (c.step w k).number (step_rows w k)
@@ -72,16 +81,18 @@ pub record Demand1 (c : Code) : Type 0 where
   pub check : (b : List ℕ) → Numbered (check_number (c.check b)) (check_rows b)
   pub write : (buf : List ℕ) (mask : ℕ) (kinds ids values : List ℕ)
       → Numbered (number_of (c.write buf mask kinds ids values)) (write_rows buf mask kinds ids values)
-  pub rehearse : (sheet world out : List ℕ) → Numbered (c.rehearse sheet world out).answer (rehearse_rows sheet world out)
+  pub rehearse : (sheet world out : List ℕ) → Numbered (rehearsed_number (c.rehearse sheet world out)) (rehearse_rows sheet world out)
   -- "All but 0 report event 0 with zero fields and change nothing."
   pub step_kept : (w : List ℕ) (k : Step) → 0 < (c.step w k).number → (c.step_world w k ≡ w) × (report_of (c.step w k).report ≡ no_report)
   pub start_kept : (w : List ℕ) (mask : ℕ) → 0 < (c.start w mask).number → (c.start_world w mask ≡ w) × (report_of (c.start w mask).report ≡ no_report)
-  pub check_kept : (b : List ℕ) → 0 < check_number (c.check b) → ((c.check b).mask ≡ 0) × ((c.check b).steps ≡ 0)
+  -- (so a bad sheet has no mask and no steps)
+  pub check_kept : (b : List ℕ) → 0 < check_number (c.check b) → c.check b ≡ Err BadSheet
   pub write_kept : (buf : List ℕ) (mask : ℕ) (kinds ids values : List ℕ) → 0 < number_of (c.write buf mask kinds ids values)
       → (c.write_buf buf mask kinds ids values ≡ buf) × (size_of (c.write buf mask kinds ids values) ≡ 0)
-  pub world_kept : (sheet world out : List ℕ) → 0 < (c.rehearse sheet world out).answer → c.rehearse_world sheet world out ≡ world
+  pub world_kept : (sheet world out : List ℕ) → 0 < rehearsed_number (c.rehearse sheet world out) → c.rehearse_world sheet world out ≡ world
   -- and but for the record of a bad sheet, so does the record's buffer; its length is told
-  pub out_kept : (sheet world out : List ℕ) → 0 < (c.rehearse sheet world out).answer → let l = refused_record (c.rehearse sheet world out).answer out in
+  pub out_kept : (sheet world out : List ℕ) → 0 < rehearsed_number (c.rehearse sheet world out)
+      → let l = refused_record (rehearsed_number (c.rehearse sheet world out)) out in
       (c.rehearse_out sheet world out ≡ l ++ drop (length l) out) × ((c.rehearse sheet world out).length ≡ length l)
 
 -- of every program that keeps the promises of the sources

@@ -1,6 +1,6 @@
 -- DEMAND 2, as a type over programs: every accepted step changes the world and sends messages exactly as the rules say, through any run; and sheets round-trip,
 -- both ways, through the program's own functions. Assumes nothing.
-use Rattle.std.specs.Prelude.{◌≡◌, true, false, List, [], ◌∷◌, ◌++◌, map, ℕ, zero, suc, ◌≤◌, ◌<◌, length, get_or, take, drop}
+use Rattle.std.specs.Prelude.{◌≡◌, true, List, [], ◌∷◌, ◌++◌, map, Option, None, Some, Ok, ℕ, zero, suc, ◌≤◌, ◌<◌, length, get_or, take, drop}
 use Rattle.rules.specs.State.{start}
 use Rattle.rules.specs.declared.Step.{Step}
 use Rattle.rules.specs.Steps.{Outcome, no_report, after, report, stepped}
@@ -8,8 +8,7 @@ use Rattle.layout.specs.Layout.{world_width}
 use Rattle.layout.specs.Image.{image, world_at, good_bytes}
 use Rattle.rules.specs.Sheets.{version1, sheet, sheet_in, sheet_width}
 use Rattle.rules.specs.Runs.{outcomes, last_world, answer, fields, printed, longest}
-use Rattle.sheet.specs.declared.Found.{Found}
-use Rattle.sheet.specs.declared.Found.TheVariants.{At, End}
+use Rattle.sheet.specs.declared.Sheet.{Sheet}
 use Rattle.sheet.specs.Reading.{front_of}
 use Rattle.sheet.specs.Writing.{kinds_of, ids_of, values_of, number_of, size_of}
 use Rattle.world.specs.Answer.{columns, report_of}
@@ -32,15 +31,15 @@ outcome_line o = answer o ∷ fields (report o).event (report o).who
 
 -- ---- a sheet, read by the program: "It is read from the front one step at a time."
 
--- what is found, before what is read past it; at the end, nothing
-abbrev pub before : Found → List Step → List Step
-before (At k) rest = k ∷ rest
-before End rest = []
+-- what is found, before what is read from the position past it on; at the end, nothing
+abbrev pub before : Option (Step × ℕ) → (ℕ → List Step) → List Step
+before (Some (k, past)) rest = k ∷ rest past
+before None rest = []
 
 -- at most n steps, from a position on
 unfoldable pub read_from : Code → ℕ → List ℕ → ℕ → List Step
 read_from c zero b at = []
-read_from c (suc n) b at = before (c.read_at b at).found (read_from c n b (c.read_at b at).at)
+read_from c (suc n) b at = before (c.read_at b at) (read_from c n b)
 
 -- the steps from the first on, until the end is found (no sheet has as many steps as bytes)
 abbrev pub read_by : Code → List ℕ → List Step
@@ -69,16 +68,16 @@ pub record Demand2 (c : Code) : Type 0 where
       × (told_by c (c.start_world w mask) ks ≡ map outcome_line (outcomes (start mask) ks))
   -- a sheet is run where there is room for its record: that leaves the image of its last world, and its record whole at the front of the record's buffer
   pub rehearsed : (b world out : List ℕ) (mask : ℕ) (ks : List Step) → sheet_in b ≡ sheet mask ks → length world ≡ world_width → longest (length ks) ≤ length out
-      → ((c.rehearse b world out).answer ≡ 0)
+      → ((c.rehearse b world out).refused ≡ None)
       × ((c.rehearse b world out).length ≡ length (printed mask ks))
       × (c.rehearse_world b world out ≡ image (last_world (start mask) ks))
       × (c.rehearse_out b world out ≡ printed mask ks ++ drop (length (printed mask ks)) out)
   -- what is checked and read of an accepted sheet is document 01's: its mask, its steps, and how many they are
-  pub sheet_read : (b : List ℕ) → (c.check b).bad ≡ false → (sheet_in b ≡ sheet (c.check b).mask (read_by c b)) × ((c.check b).steps ≡ length (read_by c b))
+  pub sheet_read : (b : List ℕ) (s : Sheet) → c.check b ≡ Ok s → (sheet_in b ≡ sheet s.mask (read_by c b)) × (s.steps ≡ length (read_by c b))
   -- an accepted sheet, checked, read step by step and written again, gives the same bytes
-  pub sheet_again : (b buf : List ℕ) → Below 256 b → (c.check b).bad ≡ false → length b ≤ length buf
-      → let ks = read_by c b in let r = c.write buf (c.check b).mask (kinds_of ks) (ids_of ks) (values_of ks) in
-      (number_of r ≡ 0) × (size_of r ≡ length b) × (c.write_buf buf (c.check b).mask (kinds_of ks) (ids_of ks) (values_of ks) ≡ b ++ drop (length b) buf)
+  pub sheet_again : (b buf : List ℕ) (s : Sheet) → Below 256 b → c.check b ≡ Ok s → length b ≤ length buf
+      → let ks = read_by c b in let r = c.write buf s.mask (kinds_of ks) (ids_of ks) (values_of ks) in
+      (number_of r ≡ 0) × (size_of r ≡ length b) × (c.write_buf buf s.mask (kinds_of ks) (ids_of ks) (values_of ks) ≡ b ++ drop (length b) buf)
   -- up to 8,000 steps in slices, written and read, give the same slices
   pub sheet_back : (buf : List ℕ) (mask : ℕ) (kinds ids values : List ℕ) → 0 < mask → mask < 256
       → length ids ≡ length kinds → length values ≡ length kinds → length kinds ≤ version1.most_steps
@@ -87,7 +86,7 @@ pub record Demand2 (c : Code) : Type 0 where
       → let b = take (sheet_width version1 (length kinds)) (c.write_buf buf mask kinds ids values) in
       (number_of (c.write buf mask kinds ids values) ≡ 0)
       × (size_of (c.write buf mask kinds ids values) ≡ sheet_width version1 (length kinds))
-      × (c.check b ≡ record { bad = false; mask = mask; steps = length kinds })
+      × (c.check b ≡ Ok (record { mask = mask; steps = length kinds }))
       × (kinds_of (read_by c b) ≡ kinds) × (ids_of (read_by c b) ≡ ids) × (values_of (read_by c b) ≡ values)
 
 -- of every program that keeps the promises of the sources
