@@ -380,13 +380,14 @@ module _ (c : Code) (p : Promised c) where
   read_all : (n : ℕ) (b : List ℕ) (at : ℕ) → length (steps_from b at) ≤ n → read_from c n b at ≡ steps_from b at
   unfolding read_from
   read_all zero b at h = none_left (steps_from b at) h
-  read_all (suc n) b at h = go (c.read_at b at) refl
+  read_all (suc n) b at h = go (c.read_at b at) refl (read_all n b)
     where
-      go : (t : Option (Step × ℕ)) → c.read_at b at ≡ t → before t (read_from c n b) ≡ steps_from b at
-      go (Some (k, past)) e =
+      go : (t : Option (Step × ℕ)) → c.read_at b at ≡ t → ((past : ℕ) → length (steps_from b past) ≤ n → read_from c n b past ≡ steps_from b past)
+          → before t (read_from c n b) ≡ steps_from b at
+      go (Some (k, past)) e more =
           let s = taken_step b at (c.read_at b at) (p.read_at_kept b at) k past e in
-          ap (λ (l : List Step). k ∷ l) (read_all n b past (omega (arith, ap length s))) ∙ sym s
-      go None e = sym (taken_end b at (c.read_at b at) (p.read_at_kept b at) e)
+          ap (λ (l : List Step). k ∷ l) (more past (omega (arith, ap length s))) ∙ sym s
+      go None e more = sym (taken_end b at (c.read_at b at) (p.read_at_kept b at) e)
 
   read_sheet : (b : List ℕ) (mask : ℕ) (ks : List Step) → sheet_in b ≡ sheet mask ks → read_by c b ≡ ks
   read_sheet b mask ks e =

@@ -4,7 +4,8 @@
 --
 -- Each line is the promise as it stands in the source (checks/total compares them): r is the result; of a lent buffer, its name is what it held
 -- before and b what it holds afterwards. A function with several promises has a line for each, by its name.
-use Rattle.std.specs.Prelude.{if◌then◌else◌}
+use Rattle.std.specs.Prelude.{if◌then◌else◌, Option, Result, Ok, Err}
+use Rattle.std.specs.Iterator.{YieldsFirst}
 use mathlib.Core.Path.{◌≡◌, refl, sym, ap, ◌∙◌}
 use mathlib.Core.List.{List, [], ◌∷◌}
 use Prim.Native.Nat.{ℕ, ◌+◌, ◌≤◌, min}
@@ -23,6 +24,11 @@ use Rattle.stamps.specs.declared.Pair.{Pair}
 use Rattle.rows.specs.Bytes as rows
 use Rattle.rows.specs.Bytes.{placed, be16, u16_at, u32_at, zeros}
 use Rattle.rows.specs.Tests.{all_zero}
+use Rattle.rows.specs.declared.Field.{Field}
+use Rattle.rules.specs.Coded as coded
+use Rattle.rules.specs.Coded.{kind_told}
+use Rattle.rules.specs.declared.Refusal.{Refusal}
+use Rattle.rules.specs.declared.Refusal.TheVariants.{BadWorld, BadStep, Empty, Dead, NotNow, NotYet, Worn, NoRoom, BadSheet}
 use Rattle.rules.specs.Sets.{members, joined}
 use Rattle.rules.specs.Messages as rules
 use Rattle.rules.specs.State.{no_relay, no_desk}
@@ -31,6 +37,8 @@ use Rattle.rules.specs.Relays as relays
 use Rattle.rules.specs.Desks.{begun, ended}
 use Rattle.rules.specs.Desks as desks
 use Rattle.layout.specs.Image.{sequence_bytes, pair_at, head_bytes, generator_bytes, transfer_bytes, desk_bytes, desk_at, row_bytes, good_bytes}
+use Rattle.layout.specs.Kinds.{number_of_kind, kind_of}
+use Rattle.layout.specs.declared.MessageKind.{MessageKind}
 use Rattle.layout.specs.Lent.{Lent, lent_start, lent_step}
 use Rattle.rules.specs.Sheets as sheets
 use Rattle.rules.specs.Runs.{decimal, line, fields, start_of, end_of, bad_of}
@@ -46,21 +54,22 @@ use Rattle.state.specs.declared.Body.{Body}
 use Rattle.state.specs.declared.Message.{Message}
 use Rattle.state.specs.declared.Sending.{Sending}
 use Rattle.state.specs.declared.Sendings.{Sendings}
+use Rattle.state.specs.declared.Event.{Event}
+use Rattle.state.specs.declared.Event.TheVariants as events
+use Rattle.state.specs.declared.Plan.{Plan}
 use Rattle.state.specs.Meaning.{notes_of, generator_of, transfer_of, relay_of, part_of, body_of}
 use Rattle.state.specs.Plans.{turn_of, turned, plan_of, desk_plan_of, planned}
-use Rattle.messages.specs.Made.{made_with, made, send_to, to_nobody, all_sent, one_of}
+use Rattle.messages.specs.Made.{made_with, made, send_to, to_nobody, all_sent, one_of, plan_of_all}
 use Rattle.generator.specs.Heard.{heard_in_row}
 use Rattle.generator.specs.Rows.{fresh_row, noted_row}
 use Rattle.relay.specs.Fitting.{join_answer, timer_answer, hears_answer}
 use Rattle.desk.specs.Replies.{reply_noted}
 use Rattle.image.specs.Parts.{notes_bytes, head_at, message_row, sequence_row_at, notes_row_at, generator_row_at, transfer_row_at, message_row_at}
-use Rattle.sheet.specs.Reading.{check_of, front_of, step_at, after_of, taken_at}
+use Rattle.sheet.specs.Reading.{check_of, front_of, step_at, after_of, taken_at, steps_left}
 use Rattle.sheet.specs.Writing.{ruled, ruled_size, buffer_of, number_of, size_of}
-use Rattle.sheet.specs.declared.Written.{Written}
-use Rattle.sheet.specs.declared.Written.TheVariants.{Done, BadSheet, NoRoom}
 use Rattle.sheet.specs.declared.reader.Reader.{Reader}
 use Rattle.record.specs.Lines.{laid, past, step_of}
-use Rattle.world.specs.Answer.{report_of, lent_of}
+use Rattle.world.specs.Answer.{report_of, lent_of, answer_of}
 use Rattle.world.specs.Tracing.{columns_of, waiting_rows, trace_answer, trace_world, trace_left}
 use Rattle.rehearsal.specs.Playing.{rehearse_answer, world_left, record_left}
 use Rattle.world.specs.declared.Answer.{Answer}
@@ -198,8 +207,8 @@ rows_put_u16 s at x = by_equation (placed s at (be16 x))
 pub rows_clear : (s : List ℕ) (at n : ℕ) → Determined (λ b. b ≡ placed s at (zeros n))
 rows_clear s at n = by_equation (placed s at (zeros n))
 
-pub rows_put_fields : (s : List ℕ) (at : ℕ) (widths xs : List ℕ) → Determined (λ b. b ≡ placed s at (rows.fields_of widths xs))
-rows_put_fields s at widths xs = by_equation (placed s at (rows.fields_of widths xs))
+pub rows_put_fields : (s : List ℕ) (at : ℕ) (fields : List Field) → Determined (λ b. b ≡ placed s at (rows.fields_of fields))
+rows_put_fields s at fields = by_equation (placed s at (rows.fields_of fields))
 
 pub rows_read_u16 : (s : List ℕ) (at : ℕ) → Determined (λ r. r ≡ u16_at s at)
 rows_read_u16 s at = by_equation (u16_at s at)
@@ -212,11 +221,25 @@ rows_is_zero s at n = by_equation (all_zero s at n)
 
 -- ---- rules
 
+pub rules_number : (self : Refusal) → Determined (λ r. r ≡ coded.number_of self)
+rules_number self = by_equation (coded.number_of self)
+
+pub rules_step_kind_try_from : (number : ℕ) → Determined (λ r. r ≡ kind_told number)
+rules_step_kind_try_from number = by_equation (kind_told number)
+
 pub rules_begun : (self : Desk) (phase : Phase) (view : ℕ) (holds : Pair) → Determined (λ r. r ≡ begun self phase view holds)
 rules_begun self phase view holds = by_equation (begun self phase view holds)
 
 pub rules_ended : (self : Desk) → Determined (λ r. r ≡ ended self)
 rules_ended self = by_equation (ended self)
+
+-- ---- layout
+
+pub layout_number : (self : MessageKind) → Determined (λ r. r ≡ number_of_kind self)
+layout_number self = by_equation (number_of_kind self)
+
+pub layout_message_kind_from : (number : ℕ) → Determined (λ r. r ≡ kind_of number)
+layout_message_kind_from number = by_equation (kind_of number)
 
 -- ---- messages
 
@@ -276,6 +299,18 @@ messages_sent_before s rest = by_equation (all_sent (s ∷ rest.of))
 
 pub messages_one_sent : (s : Sending) → Determined (λ r. r ≡ all_sent (s ∷ []))
 messages_one_sent s = by_equation (all_sent (s ∷ []))
+
+pub messages_tells : (A : Type 0) (next : A) (event : Event) → Determined (λ r. r ≡ plan_of_all next [] event)
+messages_tells A next event = by_equation (plan_of_all next [] event)
+
+pub messages_quietly : (A : Type 0) (next : A) → Determined (λ r. r ≡ plan_of_all next [] events.Nothing)
+messages_quietly A next = by_equation (plan_of_all next [] events.Nothing)
+
+pub messages_sent_first : (A : Type 0) (s : Sending) (later : Plan A) → Determined (λ r. r ≡ plan_of_all later.next (s ∷ later.sends.of) later.event)
+messages_sent_first A s later = by_equation (plan_of_all later.next (s ∷ later.sends.of) later.event)
+
+pub messages_sends : (A : Type 0) (next : A) (s : Sending) → Determined (λ r. r ≡ plan_of_all next (s ∷ []) events.Nothing)
+messages_sends A next s = by_equation (plan_of_all next (s ∷ []) events.Nothing)
 
 -- ---- generator
 
@@ -394,14 +429,33 @@ pub sheet_after : (b : List ℕ) (at : ℕ) → Determined (λ r. r ≡ after_of
 sheet_after b at = by_equation (after_of b at)
 
 -- the answer with this number, of a sheet of this many bytes
-written_for : ℕ → ℕ → Written
-written_for n size = if eqb n 0 then Done size else if eqb n 8 then NoRoom else BadSheet
+refusal_for : ℕ → Refusal
+refusal_for n =
+    if eqb n 1 then BadWorld
+    else if eqb n 2 then BadStep
+    else if eqb n 3 then Empty
+    else if eqb n 4 then Dead
+    else if eqb n 5 then NotNow
+    else if eqb n 6 then NotYet
+    else if eqb n 7 then Worn
+    else if eqb n 8 then NoRoom
+    else BadSheet
 
-written_back : (r : Written) → written_for (number_of r) (size_of r) ≡ r
-unfolding written_for
-written_back (Done n) = refl
-written_back NoRoom = refl
-written_back BadSheet = refl
+written_for : ℕ → ℕ → Result ℕ Refusal
+written_for n size = if eqb n 0 then Ok size else Err (refusal_for n)
+
+written_back : (r : Result ℕ Refusal) → written_for (number_of r) (size_of r) ≡ r
+unfolding refusal_for written_for
+written_back (Ok n) = refl
+written_back (Err BadWorld) = refl
+written_back (Err BadStep) = refl
+written_back (Err Empty) = refl
+written_back (Err Dead) = refl
+written_back (Err NotNow) = refl
+written_back (Err NotYet) = refl
+written_back (Err Worn) = refl
+written_back (Err NoRoom) = refl
+written_back (Err BadSheet) = refl
 
 pub sheet_write_answer : (buf : List ℕ) (mask : ℕ) (kinds ids values : List ℕ)
     → Determined (λ r. (number_of r ≡ sheets.number (ruled buf mask kinds ids values)) × (size_of r ≡ ruled_size buf mask kinds ids values))
@@ -417,11 +471,12 @@ reader_back r s e f = λ i. record { sheet = e i; at = f i }
 pub sheet_new : (sheet : Bor (List ℕ)) → Determined (λ (r : Reader). (r.sheet ≡ sheet) × (r.at ≡ front_of sheet.now))
 sheet_new sheet r s e f = reader_back r s (e.0 ∙ sym f.0) (e.1 ∙ sym f.1)
 
-pub sheet_next : (r : Reader) → Determined (λ s. s ≡ step_at r.sheet.now r.at)
-sheet_next r = by_equation (step_at r.sheet.now r.at)
-
-pub sheet_moved : (r : Reader) → Determined (λ (q : Reader). (q.sheet ≡ r.sheet) × (q.at ≡ after_of r.sheet.now r.at))
-sheet_moved r q s e f = reader_back q s (e.0 ∙ sym f.0) (e.1 ∙ sym f.1)
+-- the step that a reader gives, and the reader past it
+pub sheet_reader_next : (self : Reader)
+    → DeterminedWith (λ (r : Option Step) (b : Reader). (r ≡ step_at self.sheet.now self.at)
+    × ((b.sheet ≡ self.sheet) × (b.at ≡ after_of self.sheet.now self.at))
+    × YieldsFirst steps_left self r b)
+sheet_reader_next self r s b c e f = (e.0 ∙ sym f.0, reader_back b c (e.1.0 ∙ sym f.1.0) (e.1.1 ∙ sym f.1.1))
 
 pub sheet_read_at : (sheet : List ℕ) (at : ℕ) → Determined (λ r. r ≡ taken_at sheet at)
 sheet_read_at sheet at = by_equation (taken_at sheet at)
@@ -509,6 +564,9 @@ by_lent l r s b c e f =
 
 pub world_step : (w : List ℕ) (k : Step) → DeterminedWith (λ r b. lent_of r b ≡ lent_step w k)
 world_step w k = by_lent (lent_step w k)
+
+pub world_answer_from : (done : Result Report Refusal) → Determined (λ r. r ≡ answer_of done)
+world_answer_from done = by_equation (answer_of done)
 
 pub world_start : (w : List ℕ) (mask : ℕ) → DeterminedWith (λ r b. lent_of r b ≡ lent_start w mask)
 world_start w mask = by_lent (lent_start w mask)

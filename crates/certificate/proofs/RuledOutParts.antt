@@ -1,9 +1,10 @@
--- Wrong programs that the promises rule out: messages, generator, relay and desk. Where a promise speaks of what a result means, so does the wrong program.
+-- Wrong programs that the promises rule out: layout, messages, generator, relay and desk. Where a promise speaks of what a result means, so does the wrong program.
 -- Assumes nothing.
+use Rattle.std.specs.Prelude.{None, if◌then◌else◌}
 use mathlib.Core.Path.{◌≡◌}
 use mathlib.Core.Bool.{Bool, true, false, not}
 use mathlib.Core.List.{List, [], ◌∷◌}
-use Prim.Native.Nat.{ℕ, ◌+◌, ◌%◌}
+use Prim.Native.Nat.{ℕ, ◌+◌, ◌-◌, ◌%◌}
 use lib.Bits.{bit_and}
 use lib.Count.{ones, ones_in}
 use lib.Dec.{T, eqb, leb}
@@ -23,6 +24,9 @@ use Rattle.rules.specs.Generators as generators
 use Rattle.rules.specs.Relays as relays
 use Rattle.rules.specs.Desks.{cleared}
 use Rattle.rules.specs.Desks as desks
+use Rattle.layout.specs.Kinds.{number_of_kind, kind_of}
+use Rattle.layout.specs.declared.MessageKind.{MessageKind}
+use Rattle.layout.specs.declared.MessageKind.TheVariants.{Request}
 use Rattle.layout.specs.Image.{phase_number, body_row, body_in}
 use Rattle.rules.specs.declared.Desk.{Desk}
 use Rattle.rules.specs.declared.Phase.{Phase}
@@ -33,17 +37,37 @@ use Rattle.state.specs.declared.Part.{Part}
 use Rattle.state.specs.declared.Body.{Body}
 use Rattle.state.specs.declared.Sending.{Sending}
 use Rattle.state.specs.declared.Sendings.{Sendings}
+use Rattle.state.specs.declared.Event.{Event}
+use Rattle.state.specs.declared.Event.TheVariants.{Nothing, Opened, ReadDone, WriteDone}
+use Rattle.state.specs.declared.Plan.{Plan}
 use Rattle.state.specs.Meaning.{notes_of, generator_of, relay_of, part_of, body_of}
 use Rattle.state.specs.Plans.{no_sending, padded, Turned, turned, Planned, planned}
-use Rattle.messages.specs.Made.{blank_of, made_with, made, send_to, to_nobody, all_sent, one_of}
+use Rattle.messages.specs.Made.{blank_of, made_with, made, send_to, to_nobody, all_sent, one_of, plan_of_all}
 use Rattle.generator.specs.Heard.{merged_in_row, hears_in_row, heard_in_row}
 use Rattle.generator.specs.Rows.{no_notes, fresh_row, noted_row}
 use Rattle.relay.specs.Fitting.{fitting, join_answer, timer_answer, hears_answer}
 use Rattle.relay.specs.Fitting as fit
 use Rattle.desk.specs.Replies.{reply_noted}
 use Rattle.certificate.proofs.Differ.{differ, itself, truth}
-use Rattle.certificate.proofs.Typed.{in_u16, in_u32, in_u8, in_Body, in_Desk, in_Generator, in_Notes, in_Pair, in_Part, in_Sequence}
-use Rattle.certificate.proofs.Typed.{in_Sending, in_Sendings}
+use Rattle.certificate.proofs.Typed.{in_u16, in_u32, in_u8, in_Body, in_Desk, in_Event, in_Generator, in_Notes, in_Pair, in_Part, in_Sequence}
+use Rattle.certificate.proofs.Typed.{in_Plan, in_Sending, in_Sendings}
+
+-- ---- layout
+
+pub layout_number_counted_from_zero : ¬ ((self : MessageKind) → number_of_kind self - 1 ≡ number_of_kind self)
+layout_number_counted_from_zero p = differ itself (p Request) tt
+
+pub layout_number_of_an_acknowledgement : ¬ ((self : MessageKind) → 11 ≡ number_of_kind self)
+layout_number_of_an_acknowledgement p = differ itself (p Request) tt
+
+pub layout_message_kind_from_a_request_of_no_kind : ¬ ((number : ℕ) → T (in_u8 number)
+    → (if eqb number 0 then Request else kind_of number) ≡ kind_of number)
+unfolding kind_of
+layout_message_kind_from_a_request_of_no_kind p = differ number_of_kind (p 0 tt) tt
+
+pub layout_message_kind_from_the_next : ¬ ((number : ℕ) → T (in_u8 number) → kind_of (number + 1) ≡ kind_of number)
+unfolding kind_of
+layout_message_kind_from_the_next p = differ number_of_kind (p 1 tt) tt
 
 -- ---- messages; the fields of a body, and a body with another
 
@@ -181,16 +205,16 @@ abbrev unclean : Body
 unclean = record { kind = 2; first = 1; second = 0; tries = 0; sequence = row_of (3 ∷ []); pair = fresh_pair; updates = 9 }
 
 pub messages_plain_as_it_is : ¬ ((b : Body) → T (in_Body b) → b ≡ made_with b.sequence (body_of b))
-unfolding made_with body_of body_in row_of
+unfolding made_with body_of body_in kind_of row_of
 messages_plain_as_it_is p = differ updates (p unclean tt) tt
 
 pub messages_plain_with_a_sequence_always : ¬ ((b : Body) → T (in_Body b)
     → with_sequence b.sequence (made_with b.sequence (body_of b)) ≡ made_with b.sequence (body_of b))
-unfolding made_with body_of body_in row_of
+unfolding made_with body_of body_in kind_of row_of
 messages_plain_with_a_sequence_always p = differ many (p unclean tt) tt
 
 pub messages_plain_emptied : ¬ ((b : Body) → T (in_Body b) → made (rules.ack 0) ≡ made_with b.sequence (body_of b))
-unfolding made_with body_of body_in row_of
+unfolding made_with body_of body_in kind_of row_of
 messages_plain_emptied p = differ kind (p unclean tt) tt
 
 abbrev receivers : Sending → ℕ
@@ -265,6 +289,60 @@ messages_one_sent_twice p = differ (sent_at 1) (p to_first tt) tt
 pub messages_one_sent_to_nobody : ¬ ((s : Sending) → T (in_Sending s) → all_sent [] ≡ all_sent (s ∷ []))
 unfolding row_of blank_of made_with all_sent padded
 messages_one_sent_to_nobody p = differ (sent_at 0) (p to_first tt) tt
+
+-- of a plan, whatever is so next: to whom its entry i is sent, and the event
+abbrev planned_to : {A : Type 0} → ℕ → Plan A → ℕ
+planned_to i x = sent_at i x.sends
+
+abbrev event_number : Event → ℕ
+event_number Nothing = 0
+event_number (Opened v) = 1
+event_number (ReadDone p) = 2
+event_number (WriteDone p) = 3
+
+abbrev happens : {A : Type 0} → Plan A → ℕ
+happens x = event_number x.event
+
+pub messages_tells_of_nothing : ¬ ((A : Type 0) (next : A) (event : Event) → T (in_Event event) → plan_of_all next [] Nothing ≡ plan_of_all next [] event)
+unfolding all_sent padded row_of blank_of made_with plan_of_all
+messages_tells_of_nothing p = differ happens (p ℕ 5 (Opened 1) tt) tt
+
+pub messages_tells_and_sends : ¬ ((A : Type 0) (next : A) (event : Event) → T (in_Event event)
+    → plan_of_all next (to_first ∷ []) event ≡ plan_of_all next [] event)
+unfolding all_sent padded row_of blank_of made_with plan_of_all
+messages_tells_and_sends p = differ (planned_to 0) (p ℕ 5 Nothing tt) tt
+
+pub messages_quietly_opened : ¬ ((A : Type 0) (next : A) → plan_of_all next [] (Opened 1) ≡ plan_of_all next [] Nothing)
+unfolding all_sent padded row_of blank_of made_with plan_of_all
+messages_quietly_opened p = differ happens (p ℕ 5) tt
+
+pub messages_quietly_and_sends : ¬ ((A : Type 0) (next : A) → plan_of_all next (to_first ∷ []) Nothing ≡ plan_of_all next [] Nothing)
+unfolding all_sent padded row_of blank_of made_with plan_of_all
+messages_quietly_and_sends p = differ (planned_to 0) (p ℕ 5) tt
+
+pub messages_sends_not_at_all : ¬ ((A : Type 0) (next : A) (s : Sending) → T (in_Sending s) → plan_of_all next [] Nothing ≡ plan_of_all next (s ∷ []) Nothing)
+unfolding all_sent padded row_of blank_of made_with plan_of_all
+messages_sends_not_at_all p = differ (planned_to 0) (p ℕ 5 to_first tt) tt
+
+pub messages_sends_twice : ¬ ((A : Type 0) (next : A) (s : Sending) → T (in_Sending s)
+    → plan_of_all next (s ∷ s ∷ []) Nothing ≡ plan_of_all next (s ∷ []) Nothing)
+unfolding all_sent padded row_of blank_of made_with plan_of_all
+messages_sends_twice p = differ (planned_to 1) (p ℕ 5 to_first tt) tt
+
+pub messages_sent_first_not_sent : ¬ ((A : Type 0) (s : Sending) (later : Plan A) → T (in_Sending s) → T (in_Plan later)
+    → later ≡ plan_of_all later.next (s ∷ later.sends.of) later.event)
+unfolding all_sent padded row_of blank_of made_with plan_of_all
+messages_sent_first_not_sent p = differ (planned_to 0) (p ℕ to_first (plan_of_all 5 [] Nothing) tt tt) tt
+
+pub messages_sent_first_without_the_rest : ¬ ((A : Type 0) (s : Sending) (later : Plan A) → T (in_Sending s) → T (in_Plan later)
+    → plan_of_all later.next (s ∷ []) later.event ≡ plan_of_all later.next (s ∷ later.sends.of) later.event)
+unfolding all_sent padded row_of blank_of made_with plan_of_all
+messages_sent_first_without_the_rest p = differ (planned_to 1) (p ℕ to_nobody (plan_of_all 5 (to_first ∷ []) Nothing) tt tt) tt
+
+pub messages_sent_first_of_nothing : ¬ ((A : Type 0) (s : Sending) (later : Plan A) → T (in_Sending s) → T (in_Plan later)
+    → plan_of_all later.next (s ∷ later.sends.of) Nothing ≡ plan_of_all later.next (s ∷ later.sends.of) later.event)
+unfolding all_sent padded row_of blank_of made_with plan_of_all
+messages_sent_first_of_nothing p = differ happens (p ℕ to_first (plan_of_all 5 [] (Opened 1)) tt tt) tt
 
 -- ---- generator
 
@@ -359,10 +437,8 @@ abbrev part : Bool → ℕ → ℕ → ℕ → Part
 part entered view known pending =
     record {
       head = record { alive = true; entered = entered; active = entered; view = view; known = known; pending = pending; holds = fresh_pair };
-      generates = false;
-      generator = generator 0 [] [];
-      transfers = false;
-      transfer = record { old = 0; new = 0; sequence = row_of []; senders = 0; best = fresh_pair; gathered = 0 };
+      generator = None;
+      transfer = None;
     }
 
 abbrev answer : {A : Type 0} → Planned A → ℕ
@@ -409,17 +485,17 @@ put = record { kind = 8; first = 1; second = 0; tries = 5; sequence = row_of [];
 
 pub relay_hears_refused_always : ¬ ((s : ℕ) (p : Part) (from : ℕ) (b : Body) → T (in_u8 s) → T (in_Part p) → T (in_u8 from) → T (in_Body b)
     → planned no_relay (rules.refused rules.not_yet) ≡ planned no_relay (hears_answer s (part_of p) from (body_of b)))
-unfolding part_of relay_of body_of body_in views_of row_of inside_of fitting fit.hears_in_row hears_answer relays.relay_hears relays.get_heard planned padded
+unfolding part_of relay_of body_of body_in kind_of views_of row_of inside_of fitting fit.hears_in_row hears_answer relays.relay_hears relays.get_heard planned padded
 relay_hears_refused_always p = differ answer (p 0 (part true 1 1 0) 8 get tt tt tt tt) tt
 
 pub relay_hears_and_does_nothing : ¬ ((s : ℕ) (p : Part) (from : ℕ) (b : Body) → T (in_u8 s) → T (in_Part p) → T (in_u8 from) → T (in_Body b)
     → planned no_relay (rules.quietly (part_of p)) ≡ planned no_relay (hears_answer s (part_of p) from (body_of b)))
-unfolding part_of relay_of body_of body_in views_of row_of inside_of fitting fit.hears_in_row hears_answer relays.relay_hears relays.get_heard planned padded
+unfolding part_of relay_of body_of body_in kind_of views_of row_of inside_of fitting fit.hears_in_row hears_answer relays.relay_hears relays.get_heard planned padded
 relay_hears_and_does_nothing p = differ sent_to (p 0 (part true 1 1 0) 8 get tt tt tt tt) tt
 
 pub relay_hears_and_acknowledges_only : ¬ ((s : ℕ) (p : Part) (from : ℕ) (b : Body) → T (in_u8 s) → T (in_Part p) → T (in_u8 from) → T (in_Body b)
     → planned no_relay (rules.sends (part_of p) (rules.to_one from (rules.ack b.tries) ∷ [])) ≡ planned no_relay (hears_answer s (part_of p) from (body_of b)))
-unfolding part_of relay_of body_of body_in views_of row_of inside_of sign_of compared_of greater_of greatest_of with_holds fitting fit.hears_in_row hears_answer relays.relay_hears relays.put_heard planned padded
+unfolding part_of relay_of body_of body_in kind_of views_of row_of inside_of sign_of compared_of greater_of greatest_of with_holds fitting fit.hears_in_row hears_answer relays.relay_hears relays.put_heard planned padded
 relay_hears_and_acknowledges_only p = differ (λ (x : Planned state.Relay). x.next.holds.value) (p 0 (part true 1 1 0) 8 put tt tt tt tt) tt
 
 -- ---- desk
@@ -459,13 +535,13 @@ of_try d try = record { alive = d.alive; view = d.view; phase = d.phase; tries =
 
 pub desk_hears_nothing : ¬ ((n : ℕ) (d : Desk) (from : ℕ) (b : Body) → T (in_u8 n) → T (in_Desk d) → T (in_u8 from) → T (in_Body b)
     → planned no_desk (rules.quietly d) ≡ planned no_desk (desks.desk_hears n d from (body_of b)))
-unfolding body_of body_in views_of row_of member_of ones ones_in reaches_of sign_of compared_of greater_of greatest_of stamps.same_of desks.notes_pair desks.completes desks.counted desks.pair_came desks.desk_hears planned padded
+unfolding body_of body_in kind_of views_of row_of member_of ones ones_in reaches_of sign_of compared_of greater_of greatest_of stamps.same_of desks.notes_pair desks.completes desks.counted desks.pair_came desks.desk_hears planned padded
 desk_hears_nothing p = differ phased (p 0 (desk Read1) 0 (reply 5) tt tt tt tt) tt
 
 -- "Letting a reply from an older try complete a quorum."
 pub desk_hears_any_try : ¬ ((n : ℕ) (d : Desk) (from : ℕ) (b : Body) → T (in_u8 n) → T (in_Desk d) → T (in_u8 from) → T (in_Body b)
     → planned no_desk (desks.desk_hears n (of_try d b.tries) from (body_of b)) ≡ planned no_desk (desks.desk_hears n d from (body_of b)))
-unfolding body_of body_in views_of row_of member_of ones ones_in reaches_of sign_of compared_of greater_of greatest_of stamps.same_of desks.notes_pair desks.completes desks.counted desks.pair_came desks.desk_hears planned padded
+unfolding body_of body_in kind_of views_of row_of member_of ones ones_in reaches_of sign_of compared_of greater_of greatest_of stamps.same_of desks.notes_pair desks.completes desks.counted desks.pair_came desks.desk_hears planned padded
 desk_hears_any_try p = differ phased (p 0 (desk Read1) 0 (reply 4) tt tt tt tt) tt
 
 pub desk_note_reply_not_at_all : ¬ ((desk : Desk) (from : ℕ) (p : Pair) → T (in_Desk desk) → T (in_u8 from) → T (in_Pair p) → desk ≡ reply_noted desk from p)

@@ -146,26 +146,32 @@ pub sheet_new_past_the_first_step : ¬ ((sheet : Bor (List ℕ)) → T (in_bytes
     → ((reader sheet 14).sheet ≡ sheet) × ((reader sheet 14).at ≡ front_of sheet.now))
 sheet_new_past_the_first_step p = differ itself (p lent tt).1 tt
 
--- a reader that gives this, and leaves that
-abbrev NextGives : Reader → Option Step → Reader → Type 0
-NextGives s r t = (r ≡ step_at s.sheet.now s.at) × ((t.sheet ≡ s.sheet) × (t.at ≡ after_of s.sheet.now s.at)) × YieldsFirst steps_left s r t
-
+-- of a reader, the step that is given, and the reader past it
 pub sheet_reader_next_the_first_again : ¬ ((self : Reader) → T (in_Reader self)
-    → NextGives self (step_at self.sheet.now (front_of self.sheet.now)) (reader self.sheet (after_of self.sheet.now self.at)))
+    → (step_at self.sheet.now (front_of self.sheet.now) ≡ step_at self.sheet.now self.at)
+    × (((reader self.sheet (after_of self.sheet.now self.at)).sheet ≡ self.sheet) × ((reader self.sheet (after_of self.sheet.now self.at)).at ≡ after_of self.sheet.now self.at))
+    × YieldsFirst steps_left self (step_at self.sheet.now (front_of self.sheet.now)) (reader self.sheet (after_of self.sheet.now self.at)))
 unfolding step_at number_at form_of
 sheet_reader_next_the_first_again p = differ found (p (reader lent 14) tt).0 tt
 
 pub sheet_reader_next_the_one_after : ¬ ((self : Reader) → T (in_Reader self)
-    → NextGives self (step_at self.sheet.now (self.at + step_width version1)) (reader self.sheet (after_of self.sheet.now self.at)))
+    → (step_at self.sheet.now (self.at + step_width version1) ≡ step_at self.sheet.now self.at)
+    × (((reader self.sheet (after_of self.sheet.now self.at)).sheet ≡ self.sheet) × ((reader self.sheet (after_of self.sheet.now self.at)).at ≡ after_of self.sheet.now self.at))
+    × YieldsFirst steps_left self (step_at self.sheet.now (self.at + step_width version1)) (reader self.sheet (after_of self.sheet.now self.at)))
 unfolding step_at number_at form_of
 sheet_reader_next_the_one_after p = differ found (p (reader lent 6) tt).0 tt
 
-pub sheet_reader_next_not_moved : ¬ ((self : Reader) → T (in_Reader self) → NextGives self (step_at self.sheet.now self.at) self)
+pub sheet_reader_next_not_moved : ¬ ((self : Reader) → T (in_Reader self)
+    → (step_at self.sheet.now self.at ≡ step_at self.sheet.now self.at)
+    × ((self.sheet ≡ self.sheet) × (self.at ≡ after_of self.sheet.now self.at))
+    × YieldsFirst steps_left self (step_at self.sheet.now self.at) self)
 unfolding after_of form_of
 sheet_reader_next_not_moved p = differ itself (p (reader lent 6) tt).1.1 tt
 
 pub sheet_reader_next_moved_past_the_end : ¬ ((self : Reader) → T (in_Reader self)
-    → NextGives self (step_at self.sheet.now self.at) (reader self.sheet (self.at + step_width version1)))
+    → (step_at self.sheet.now self.at ≡ step_at self.sheet.now self.at)
+    × (((reader self.sheet (self.at + step_width version1)).sheet ≡ self.sheet) × ((reader self.sheet (self.at + step_width version1)).at ≡ after_of self.sheet.now self.at))
+    × YieldsFirst steps_left self (step_at self.sheet.now self.at) (reader self.sheet (self.at + step_width version1)))
 unfolding after_of form_of
 sheet_reader_next_moved_past_the_end p = differ itself (p (reader lent 22) tt).1.1 tt
 

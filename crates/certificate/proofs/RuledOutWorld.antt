@@ -1,17 +1,20 @@
 -- Wrong programs that the promises rule out: good, world, rehearsal and engine. Assumes nothing.
-use Rattle.std.specs.Prelude.{if◌then◌else◌}
+use Rattle.std.specs.Prelude.{if◌then◌else◌, Option, None, Some, Result, Ok, Err}
 use mathlib.Core.Path.{◌≡◌, refl, sym, ap, ◌∙◌}
 use mathlib.Core.Bool.{Bool, true, false, not, ◌&&◌}
 use mathlib.Core.List.{List, [], ◌∷◌, ◌++◌}
 use Prim.Native.Nat.{ℕ}
 use lib.Dec.{T, eqb, leb, ltb}
 use lib.ListN.{length, get_or, drop, replicate}
-use Rattle.rows.specs.Bytes.{number_at, splice, placed, bytes_of, fields_of, be32, run, cat, zeros}
+use Rattle.rows.specs.Bytes.{number_at, splice, placed, bytes_of, be32, run, cat, zeros}
 use Rattle.rows.specs.Tests.{all, all_zero}
 use Rattle.rules.specs.Sets.{those}
 use Rattle.rules.specs.State.{World, no_relay, start}
 use Rattle.rules.specs.Sending.{waiting_in}
 use Rattle.rules.specs.WellFormed.{well_formed}
+use Rattle.rules.specs.declared.Refusal.{Refusal}
+use Rattle.rules.specs.declared.Refusal.TheVariants.{BadWorld, NoRoom}
+use Rattle.rules.specs.Coded.{number_of}
 use Rattle.rules.specs.declared.Step.{Step}
 use Rattle.rules.specs.Steps.{after, stepped}
 use Rattle.layout.specs.Layout.{world_width}
@@ -28,16 +31,16 @@ use Rattle.layout.proofs.World.{image_injective}
 use Rattle.sheet.specs.Writing as writing
 use Rattle.sheet.specs.Writing.{listed, buffer_of}
 use Rattle.record.specs.Lines.{laid}
-use Rattle.world.specs.Answer.{report_of, lent_of}
-use Rattle.world.specs.Tracing.{waiting_rows, trace_row, trace_rows, Ruling, room_for, number_by, world_by, traces_wide, traced, steps_by, trace_by}
+use Rattle.world.specs.Answer.{report_of, lent_of, answer_of}
+use Rattle.world.specs.Tracing.{waiting_rows, trace_row, trace_rows, Ruling, room_for, refused_by, refused_or, world_by, traces_wide, traced, steps_by, trace_by}
 use Rattle.world.specs.Tracing.{trace_answer, trace_world, trace_left}
 use Rattle.rehearsal.specs.Playing.{decided, answer_by, laid_by, rehearse_answer, world_left, record_left}
 use Rattle.world.specs.declared.Answer.{Answer}
 use Rattle.world.specs.declared.Report.TheVariants.{Nothing, WriteDone}
-use Rattle.world.specs.declared.run.Traced.{Traced}
+use Rattle.world.specs.declared.Report.{Report}
 use Rattle.world.proofs.Tracing.{waiting_rows_lem}
 use Rattle.rehearsal.specs.declared.Rehearsed.{Rehearsed}
-use Rattle.engine.specs.Told.{good_number, sheet_number, told_bytes, told_of, Stepped, telling, told_step, told_rehearsal}
+use Rattle.engine.specs.Told.{number_told, good_number, sheet_number, told_bytes, told_of, Stepped, telling, told_step, told_rehearsal}
 use Rattle.certificate.proofs.RuledOutSheets.{headed}
 use Rattle.certificate.proofs.Differ.{differ, itself, truth, entry}
 use Rattle.certificate.proofs.Typed.{in_bytes, in_u32, in_u32s, in_u8, in_Answer, in_Step}
@@ -103,6 +106,15 @@ pub world_start_nothing_changed : ¬ ((w : List ℕ) (mask : ℕ) → T (in_byte
 unfolding lent_of
 world_start_nothing_changed p = starts_differ (buffer_of_lem (p two 1 two_bytes tt ∙ start_of_lem two (length-image (start 2))))
 
+-- what was done, or a refusal, as an answer
+pub world_answer_from_done_always : ¬ ((done : Result Report Refusal) → record { number = 0; report = Nothing } ≡ answer_of done)
+unfolding answer_of
+world_answer_from_done_always p = differ (λ (a : Answer). a.number) (p (Err BadWorld)) tt
+
+pub world_answer_from_refused_always : ¬ ((done : Result Report Refusal) → record { number = 1; report = Nothing } ≡ answer_of done)
+unfolding answer_of
+world_answer_from_refused_always p = differ (λ (a : Answer). a.number) (p (Ok Nothing)) tt
+
 -- a write of desk 2 has ended
 abbrev wrote : Answer
 wrote = record { number = 0; report = WriteDone 2 (record { stamp = record { count = 1; desk = 2 }; value = 77 }) }
@@ -157,13 +169,18 @@ one_long = length-image (start 1)
 abbrev two_long : length two ≡ world_width
 two_long = length-image (start 2)
 
-pub world_trace_answer_done_always : ¬ ((sheet world rows : List ℕ) → T (in_bytes sheet) → T (in_bytes world) → T (in_bytes rows)
-    → record { answer = 0; steps = steps_of sheet } ≡ trace_answer sheet world rows)
-unfolding trace_answer traced
-world_trace_answer_done_always p = differ (λ (r : Traced). r.answer) (p blank [] row tt tt tt) tt
+-- of a trace's answer, document 01's number
+abbrev trace_number : Result ℕ Refusal → ℕ
+trace_number (Ok n) = 0
+trace_number (Err x) = number_of x
 
-abbrev answer_after : Ruling → Traced
-answer_after x = record { answer = number_by x; steps = steps_by x }
+pub world_trace_answer_done_always : ¬ ((sheet world rows : List ℕ) → T (in_bytes sheet) → T (in_bytes world) → T (in_bytes rows)
+    → Ok (steps_of sheet) ≡ trace_answer sheet world rows)
+unfolding trace_answer traced
+world_trace_answer_done_always p = differ trace_number (p blank [] row tt tt tt) tt
+
+abbrev answer_after : Ruling → Result ℕ Refusal
+answer_after x = refused_or (steps_by x) (refused_by x)
 
 abbrev laid_after : List ℕ → List ℕ → List ℕ
 laid_after rows l = l ++ drop (length l) rows
@@ -187,11 +204,11 @@ module _ (world : List ℕ) (e : length world ≡ world_width) (sheet rows : Lis
   trace_laid_there = ap (λ (x : Ruling). laid_after rows (trace_by x)) traced_there
 
 pub world_trace_answer_done_without_room : ¬ ((sheet world rows : List ℕ) → T (in_bytes sheet) → T (in_bytes world) → T (in_bytes rows)
-    → (if eqb (length world) world_width && not (is_bad_sheet sheet) then record { answer = 0; steps = steps_of sheet } else trace_answer sheet world rows)
+    → (if eqb (length world) world_width && not (is_bad_sheet sheet) then Ok (steps_of sheet) else trace_answer sheet world rows)
     ≡ trace_answer sheet world rows)
 unfolding sheet_in steps_in all_zeros_in all_zero all form_of number_at
 world_trace_answer_done_without_room p =
-    differ (λ (r : Traced). r.answer) (sym (long_right one one_long _ _) ∙ p written one [] tt one_bytes tt ∙ trace_answered_there one one_long written []) tt
+    differ trace_number (sym (long_right one one_long _ _) ∙ p written one [] tt one_bytes tt ∙ trace_answered_there one one_long written []) tt
 
 pub world_trace_last_as_it_was : ¬ ((sheet world rows : List ℕ) → T (in_bytes sheet) → T (in_bytes world) → T (in_bytes rows)
     → world ≡ trace_world sheet world rows)
@@ -200,7 +217,7 @@ world_trace_last_as_it_was p = starts_differ (p blank two row tt two_bytes tt �
 
 pub world_trace_rows_nothing : ¬ ((sheet world rows : List ℕ) → T (in_bytes sheet) → T (in_bytes world) → T (in_bytes rows)
     → rows ≡ trace_left sheet world rows)
-unfolding sheet_in steps_in all_zeros_in recorded trace_rows trace_row fields_of bytes_of number_at all_zero all form_of
+unfolding sheet_in steps_in all_zeros_in recorded trace_rows trace_row cat bytes_of number_at all_zero all form_of
 world_trace_rows_nothing p = differ (entry 0) (p written one row tt one_bytes tt ∙ trace_laid_there one one_long written row) tt
 
 -- a row for each accepted step only
@@ -211,13 +228,16 @@ pub world_trace_rows_of_accepted_steps_only : ¬ ((sheet world rows : List ℕ) 
     → (if eqb (length world) world_width && not (is_bad_sheet sheet) then laid_after rows (accepted_rows (mask_in sheet) (list_by (form_in sheet) sheet))
     else trace_left sheet world rows)
     ≡ trace_left sheet world rows)
-unfolding sheet_in steps_in all_zeros_in recorded trace_rows trace_row fields_of bytes_of number_at those all_zero all form_of
+unfolding sheet_in steps_in all_zeros_in recorded trace_rows trace_row cat bytes_of number_at those all_zero all form_of
 world_trace_rows_of_accepted_steps_only p =
     differ (entry 0) (sym (long_right one one_long _ _) ∙ p refused one row tt one_bytes tt ∙ trace_laid_there one one_long refused row) tt
 
 -- ---- rehearsal
 
 -- a page that the record of no step fills, one with room for the record of a step, and one of a byte
+abbrev rehearsed_number : Rehearsed → ℕ
+rehearsed_number r = number_told r.refused
+
 abbrev page : List ℕ
 page = replicate 20 7
 
@@ -228,9 +248,9 @@ abbrev narrow : List ℕ
 narrow = 7 ∷ []
 
 pub rehearsal_rehearse_answer_done_always : ¬ ((sheet world out : List ℕ) → T (in_bytes sheet) → T (in_bytes world) → T (in_bytes out)
-    → record { answer = 0; length = length (rehearsed sheet) } ≡ rehearse_answer sheet world out)
+    → record { refused = None; length = length (rehearsed sheet) } ≡ rehearse_answer sheet world out)
 unfolding rehearse_answer decided answer_by
-rehearsal_rehearse_answer_done_always p = differ (λ (r : Rehearsed). r.answer) (p blank [] page tt tt tt) tt
+rehearsal_rehearse_answer_done_always p = differ rehearsed_number (p blank [] page tt tt tt) tt
 
 -- with a world of the right length
 module _ (world : List ℕ) (e : length world ≡ world_width) (sheet out : List ℕ) where
@@ -251,23 +271,23 @@ module _ (world : List ℕ) (e : length world ≡ world_width) (sheet out : List
   printed_there = ap (laid_by out) ruled_there
 
 pub rehearsal_rehearse_answer_done_without_room : ¬ ((sheet world out : List ℕ) → T (in_bytes sheet) → T (in_bytes world) → T (in_bytes out)
-    → (if eqb (length world) world_width && ltb (length out) (length (rehearsed sheet)) then record { answer = 0; length = length (rehearsed sheet) } else rehearse_answer sheet world out) ≡ rehearse_answer sheet world out)
+    → (if eqb (length world) world_width && ltb (length out) (length (rehearsed sheet)) then record { refused = None; length = length (rehearsed sheet) } else rehearse_answer sheet world out) ≡ rehearse_answer sheet world out)
 unfolding answer_by longest sheet_in steps_in all_zeros_in recorded rehearsed all_zero all form_of number_at
 rehearsal_rehearse_answer_done_without_room p =
-    differ (λ (r : Rehearsed). r.answer) (sym (long_right one one_long _ _) ∙ p blank one [] tt one_bytes tt ∙ answered_there one one_long blank []) tt
+    differ rehearsed_number (sym (long_right one one_long _ _) ∙ p blank one [] tt one_bytes tt ∙ answered_there one one_long blank []) tt
 
 -- a record that would just fit, in a buffer that the longest of as many steps does not fit into
 pub rehearsal_rehearse_answer_room_by_the_record : ¬ ((sheet world out : List ℕ) → T (in_bytes sheet) → T (in_bytes world) → T (in_bytes out)
-    → (if eqb (length world) world_width && leb (length (rehearsed sheet)) (length out) then record { answer = 0; length = length (rehearsed sheet) } else rehearse_answer sheet world out) ≡ rehearse_answer sheet world out)
+    → (if eqb (length world) world_width && leb (length (rehearsed sheet)) (length out) then record { refused = None; length = length (rehearsed sheet) } else rehearse_answer sheet world out) ≡ rehearse_answer sheet world out)
 unfolding answer_by longest sheet_in steps_in all_zeros_in recorded rehearsed all_zero all form_of number_at
 rehearsal_rehearse_answer_room_by_the_record p =
-    differ (λ (r : Rehearsed). r.answer) (sym (long_right one one_long _ _) ∙ p blank one page tt one_bytes tt ∙ answered_there one one_long blank page) tt
+    differ rehearsed_number (sym (long_right one one_long _ _) ∙ p blank one page tt one_bytes tt ∙ answered_there one one_long blank page) tt
 
 pub rehearsal_rehearse_answer_bad_sheet_done : ¬ ((sheet world out : List ℕ) → T (in_bytes sheet) → T (in_bytes world) → T (in_bytes out)
-    → (if eqb (length world) world_width && is_bad_sheet sheet then record { answer = 0; length = length bad_of } else rehearse_answer sheet world out) ≡ rehearse_answer sheet world out)
+    → (if eqb (length world) world_width && is_bad_sheet sheet then record { refused = None; length = length bad_of } else rehearse_answer sheet world out) ≡ rehearse_answer sheet world out)
 unfolding answer_by sheet_in line digits
 rehearsal_rehearse_answer_bad_sheet_done p =
-    differ (λ (r : Rehearsed). r.answer) (sym (long_right one one_long _ _) ∙ p [] one page tt one_bytes tt ∙ answered_there one one_long [] page) tt
+    differ rehearsed_number (sym (long_right one one_long _ _) ∙ p [] one page tt one_bytes tt ∙ answered_there one one_long [] page) tt
 
 pub rehearsal_rehearse_last_as_it_was : ¬ ((sheet world out : List ℕ) → T (in_bytes sheet) → T (in_bytes world) → T (in_bytes out)
     → world ≡ world_left sheet world out)
@@ -363,8 +383,8 @@ stepped_there : (W : World) → well_formed W ≡ true → (kind id value : ℕ)
 unfolding told_step
 stepped_there W g kind id value = ap (telling nine) (step_of W g (record { kind = kind; id = id; value = value }))
 
-answer_of : {x y : Stepped} → x ≡ y → x.answer ≡ y.answer
-answer_of e = ap (λ (x : Stepped). x.answer) e
+stepped_answer : {x y : Stepped} → x ≡ y → x.answer ≡ y.answer
+stepped_answer e = ap (λ (x : Stepped). x.answer) e
 
 told_of_lem : {x y : Stepped} → x ≡ y → x.told ≡ y.told
 told_of_lem e = ap (λ (x : Stepped). x.told) e
@@ -377,14 +397,14 @@ kept_there w kind id value = refl
 pub engine_world_step_answer_refused_always : ¬ ((w : List ℕ) (kind id value : ℕ) (told : List ℕ) → T (in_bytes w) → T (in_u8 kind) → T (in_u8 id) → T (in_u32 value) → T (in_bytes told)
     → 1 ≡ (told_step w kind id value told).answer)
 unfolding recorded
-engine_world_step_answer_refused_always p = differ itself (p one 5 0 77 nine one_bytes tt tt tt tt ∙ answer_of (stepped_there (start 1) one_formed 5 0 77)) tt
+engine_world_step_answer_refused_always p = differ itself (p one 5 0 77 nine one_bytes tt tt tt tt ∙ stepped_answer (stepped_there (start 1) one_formed 5 0 77)) tt
 
 -- the write is done, though nothing can be told
 pub engine_world_step_answer_done_untold : ¬ ((w : List ℕ) (kind id value : ℕ) (told : List ℕ) → T (in_bytes w) → T (in_u8 kind) → T (in_u8 id) → T (in_u32 value) → T (in_bytes told)
     → (lent_step w (record { kind = kind; id = id; value = value })).answer ≡ (told_step w kind id value told).answer)
 unfolding recorded
 engine_world_step_answer_done_untold p =
-    differ itself (sym (ap number (step_of (start 1) one_formed write)) ∙ p one 5 0 77 [] one_bytes tt tt tt tt ∙ answer_of (kept_there one 5 0 77)) tt
+    differ itself (sym (ap number (step_of (start 1) one_formed write)) ∙ p one 5 0 77 [] one_bytes tt tt tt tt ∙ stepped_answer (kept_there one 5 0 77)) tt
 
 pub engine_world_step_buffer_as_it_was : ¬ ((w : List ℕ) (kind id value : ℕ) (told : List ℕ) → T (in_bytes w) → T (in_u8 kind) → T (in_u8 id) → T (in_u32 value) → T (in_bytes told)
     → w ≡ (told_step w kind id value told).buffer)
@@ -454,7 +474,7 @@ unfolding told_rehearsal
 engine_sheet_rehearse_answer_done_always p = differ itself (p blank one page [] tt one_bytes tt tt) tt
 
 pub engine_sheet_rehearse_answer_before_told : ¬ ((sheet world out told : List ℕ) → T (in_bytes sheet) → T (in_bytes world) → T (in_bytes out) → T (in_bytes told)
-    → (rehearse_answer sheet world out).answer ≡ (told_rehearsal sheet world out told).answer)
+    → number_told (rehearse_answer sheet world out).refused ≡ (told_rehearsal sheet world out told).answer)
 unfolding rehearse_answer decided answer_by told_rehearsal
 engine_sheet_rehearse_answer_before_told p = differ itself (p blank [] page [] tt tt tt tt) tt
 
@@ -475,7 +495,7 @@ engine_sheet_rehearse_length_told_by_a_refusal p = differ (entry 0) (p blank [] 
 
 -- told after an answer
 abbrev told_after : Rehearsed → List ℕ
-told_after r = if eqb r.answer 0 then be32 r.length ++ [] else replicate 4 7
+told_after r = if eqb (number_told r.refused) 0 then be32 r.length ++ [] else replicate 4 7
 
 pub engine_sheet_rehearse_length_not_told : ¬ ((sheet world out told : List ℕ) → T (in_bytes sheet) → T (in_bytes world) → T (in_bytes out) → T (in_bytes told)
     → told ≡ (told_rehearsal sheet world out told).told)

@@ -1,6 +1,6 @@
 -- What a parameter of a type can be: a test for each type that a public function takes, so that a wrong program is refuted at an input that the function can
--- have. A struct passes where each of its fields does, an array where it has its length and each entry passes, an option where what it holds passes; a `bool`, and a choice without
--- fields, always does. (checks/total compares each with the source's declaration.) Assumes nothing.
+-- have. A struct passes where each of its fields does, an array where it has its length and each entry passes, an option where what it holds passes; a
+-- `bool`, and a choice without fields, always does. (checks/total compares each with the source's declaration.) Assumes nothing.
 use Rattle.std.specs.Prelude.{Option, None, Some}
 use mathlib.Core.Bool.{Bool, true, ◌&&◌}
 use mathlib.Core.List.{List, [], ◌∷◌}
@@ -23,6 +23,9 @@ use Rattle.state.specs.declared.Body.{Body}
 use Rattle.state.specs.declared.Message.{Message}
 use Rattle.state.specs.declared.Sending.{Sending}
 use Rattle.state.specs.declared.Sendings.{Sendings}
+use Rattle.state.specs.declared.Event.{Event}
+use Rattle.state.specs.declared.Event.TheVariants as events
+use Rattle.state.specs.declared.Plan.{Plan}
 use Rattle.sheet.specs.declared.reader.Reader.{Reader}
 use Rattle.world.specs.declared.Answer.{Answer}
 use Rattle.world.specs.declared.Report.{Report}
@@ -120,6 +123,16 @@ in_Sending x = in_Body x.body && in_u16 x.receivers
 
 abbrev pub in_Sendings : Sendings → Bool
 in_Sendings x = array 2 in_Sending x.of
+
+abbrev pub in_Event : Event → Bool
+in_Event events.Nothing = true
+in_Event (events.Opened x0) = in_u16 x0
+in_Event (events.ReadDone x0) = in_Pair x0
+in_Event (events.WriteDone x0) = in_Pair x0
+
+-- whatever is so next
+abbrev pub in_Plan : {A : Type 0} → Plan A → Bool
+in_Plan x = in_Sendings x.sends && in_Event x.event
 
 abbrev pub in_Reader : Reader → Bool
 in_Reader x = in_bytes x.sheet.now && in_usize x.at
