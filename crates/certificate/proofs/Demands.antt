@@ -10,7 +10,6 @@ use native.Mathlib.Omega.{arith}
 use lib.Dec.{eqb, leb, ltb, lit≤}
 use lib.ListN.{length, take, drop}
 use borrow.Author.Tests.{ltb-true, ltb-false, eq-eqb, ne_eqb, lt-leb, le-ltb}
-use Rattle.views.proofs.Truth.{contrary}
 use Rattle.rules.specs.Messages.{bad_step, number}
 use Rattle.rules.specs.Messages as refusals
 use Rattle.rules.specs.State.{World, start}

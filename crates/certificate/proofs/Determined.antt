@@ -300,17 +300,17 @@ messages_sent_before s rest = by_equation (all_sent (s ∷ rest.of))
 pub messages_one_sent : (s : Sending) → Determined (λ r. r ≡ all_sent (s ∷ []))
 messages_one_sent s = by_equation (all_sent (s ∷ []))
 
-pub messages_tells : (A : Type 0) (next : A) (event : Event) → Determined (λ r. r ≡ plan_of_all next [] event)
-messages_tells A next event = by_equation (plan_of_all next [] event)
+pub messages_tells : {A : Type 0} (next : A) (event : Event) → Determined (λ r. r ≡ plan_of_all next [] event)
+messages_tells next event = by_equation (plan_of_all next [] event)
 
-pub messages_quietly : (A : Type 0) (next : A) → Determined (λ r. r ≡ plan_of_all next [] events.Nothing)
-messages_quietly A next = by_equation (plan_of_all next [] events.Nothing)
+pub messages_quietly : {A : Type 0} (next : A) → Determined (λ r. r ≡ plan_of_all next [] events.Nothing)
+messages_quietly next = by_equation (plan_of_all next [] events.Nothing)
 
-pub messages_sent_first : (A : Type 0) (s : Sending) (later : Plan A) → Determined (λ r. r ≡ plan_of_all later.next (s ∷ later.sends.of) later.event)
-messages_sent_first A s later = by_equation (plan_of_all later.next (s ∷ later.sends.of) later.event)
+pub messages_sent_first : {A : Type 0} (s : Sending) (later : Plan A) → Determined (λ r. r ≡ plan_of_all later.next (s ∷ later.sends.of) later.event)
+messages_sent_first s later = by_equation (plan_of_all later.next (s ∷ later.sends.of) later.event)
 
-pub messages_sends : (A : Type 0) (next : A) (s : Sending) → Determined (λ r. r ≡ plan_of_all next (s ∷ []) events.Nothing)
-messages_sends A next s = by_equation (plan_of_all next (s ∷ []) events.Nothing)
+pub messages_sends : {A : Type 0} (next : A) (s : Sending) → Determined (λ r. r ≡ plan_of_all next (s ∷ []) events.Nothing)
+messages_sends next s = by_equation (plan_of_all next (s ∷ []) events.Nothing)
 
 -- ---- generator
 

@@ -50,7 +50,7 @@ use Rattle.relay.specs.Fitting as fit
 use Rattle.desk.specs.Replies.{reply_noted}
 use Rattle.certificate.proofs.Differ.{differ, itself, truth}
 use Rattle.certificate.proofs.Typed.{in_u16, in_u32, in_u8, in_Body, in_Desk, in_Event, in_Generator, in_Notes, in_Pair, in_Part, in_Sequence}
-use Rattle.certificate.proofs.Typed.{in_Plan, in_Sending, in_Sendings}
+use Rattle.certificate.proofs.Typed.{anything, in_Plan, in_Sending, in_Sendings}
 
 -- ---- layout
 
@@ -329,17 +329,17 @@ pub messages_sends_twice : ¬ ((A : Type 0) (next : A) (s : Sending) → T (in_S
 unfolding all_sent padded row_of blank_of made_with plan_of_all
 messages_sends_twice p = differ (planned_to 1) (p ℕ 5 to_first tt) tt
 
-pub messages_sent_first_not_sent : ¬ ((A : Type 0) (s : Sending) (later : Plan A) → T (in_Sending s) → T (in_Plan later)
+pub messages_sent_first_not_sent : ¬ ((A : Type 0) (s : Sending) (later : Plan A) → T (in_Sending s) → T (in_Plan anything later)
     → later ≡ plan_of_all later.next (s ∷ later.sends.of) later.event)
 unfolding all_sent padded row_of blank_of made_with plan_of_all
 messages_sent_first_not_sent p = differ (planned_to 0) (p ℕ to_first (plan_of_all 5 [] Nothing) tt tt) tt
 
-pub messages_sent_first_without_the_rest : ¬ ((A : Type 0) (s : Sending) (later : Plan A) → T (in_Sending s) → T (in_Plan later)
+pub messages_sent_first_without_the_rest : ¬ ((A : Type 0) (s : Sending) (later : Plan A) → T (in_Sending s) → T (in_Plan anything later)
     → plan_of_all later.next (s ∷ []) later.event ≡ plan_of_all later.next (s ∷ later.sends.of) later.event)
 unfolding all_sent padded row_of blank_of made_with plan_of_all
 messages_sent_first_without_the_rest p = differ (planned_to 1) (p ℕ to_nobody (plan_of_all 5 (to_first ∷ []) Nothing) tt tt) tt
 
-pub messages_sent_first_of_nothing : ¬ ((A : Type 0) (s : Sending) (later : Plan A) → T (in_Sending s) → T (in_Plan later)
+pub messages_sent_first_of_nothing : ¬ ((A : Type 0) (s : Sending) (later : Plan A) → T (in_Sending s) → T (in_Plan anything later)
     → plan_of_all later.next (s ∷ later.sends.of) Nothing ≡ plan_of_all later.next (s ∷ later.sends.of) later.event)
 unfolding all_sent padded row_of blank_of made_with plan_of_all
 messages_sent_first_of_nothing p = differ happens (p ℕ to_first (plan_of_all 5 [] (Opened 1)) tt tt) tt

@@ -3,7 +3,7 @@ use Rattle.std.specs.Prelude.{if◌then◌else◌, Option, None, Some, Result, O
 use Rattle.std.specs.Iterator.{YieldsFirst}
 use Rattle.std.specs.Option.{option_map}
 use mathlib.Core.Path.{◌≡◌}
-use mathlib.Core.Bool.{true, false, not, ◌&&◌}
+use mathlib.Core.Bool.{not, ◌&&◌}
 use mathlib.Core.List.{List, [], ◌∷◌, ◌++◌}
 use Prim.Native.Nat.{ℕ, ◌+◌, ◌-◌, ◌*◌, ◌/◌, ◌%◌}
 use lib.Dec.{T, eqb, leb, ltb}
@@ -22,7 +22,7 @@ use Rattle.rules.specs.declared.Refusal.{Refusal}
 use Rattle.rules.specs.declared.Refusal.TheVariants.{NoRoom, BadSheet}
 use Rattle.rules.specs.declared.Step.{Step}
 use Rattle.record.specs.Lines.{laid, past, step_of}
-use Rattle.certificate.proofs.Differ.{differ, itself, truth, entry}
+use Rattle.certificate.proofs.Differ.{differ, itself, entry}
 use Rattle.certificate.proofs.Typed.{in_bytes, in_u16, in_u32, in_u32s, in_u8, in_usize, in_Reader}
 
 -- ---- sheet

@@ -1,5 +1,5 @@
 -- Wrong programs that the promises rule out: good, world, rehearsal and engine. Assumes nothing.
-use Rattle.std.specs.Prelude.{if◌then◌else◌, Option, None, Some, Result, Ok, Err}
+use Rattle.std.specs.Prelude.{if◌then◌else◌, None, Result, Ok, Err}
 use mathlib.Core.Path.{◌≡◌, refl, sym, ap, ◌∙◌}
 use mathlib.Core.Bool.{Bool, true, false, not, ◌&&◌}
 use mathlib.Core.List.{List, [], ◌∷◌, ◌++◌}
@@ -13,7 +13,7 @@ use Rattle.rules.specs.State.{World, no_relay, start}
 use Rattle.rules.specs.Sending.{waiting_in}
 use Rattle.rules.specs.WellFormed.{well_formed}
 use Rattle.rules.specs.declared.Refusal.{Refusal}
-use Rattle.rules.specs.declared.Refusal.TheVariants.{BadWorld, NoRoom}
+use Rattle.rules.specs.declared.Refusal.TheVariants.{BadWorld}
 use Rattle.rules.specs.Coded.{number_of}
 use Rattle.rules.specs.declared.Step.{Step}
 use Rattle.rules.specs.Steps.{after, stepped}
@@ -43,7 +43,7 @@ use Rattle.rehearsal.specs.declared.Rehearsed.{Rehearsed}
 use Rattle.engine.specs.Told.{number_told, good_number, sheet_number, told_bytes, told_of, Stepped, telling, told_step, told_rehearsal}
 use Rattle.certificate.proofs.RuledOutSheets.{headed}
 use Rattle.certificate.proofs.Differ.{differ, itself, truth, entry}
-use Rattle.certificate.proofs.Typed.{in_bytes, in_u32, in_u32s, in_u8, in_Answer, in_Step}
+use Rattle.certificate.proofs.Typed.{anything, in_result, in_Report, in_bytes, in_u32, in_u32s, in_u8, in_Answer, in_Step}
 use Rattle.certificate.proofs.ImageTyped.{image_bytes}
 use Rattle.certificate.proofs.Worlds.{one, two, one_formed, two_formed, one_good, write, deliver, step_of, start_of_lem, soiled, soiled_long, soiled_bad, one_bytes, soiled_bytes, two_bytes}
 
@@ -107,13 +107,13 @@ unfolding lent_of
 world_start_nothing_changed p = starts_differ (buffer_of_lem (p two 1 two_bytes tt ∙ start_of_lem two (length-image (start 2))))
 
 -- what was done, or a refusal, as an answer
-pub world_answer_from_done_always : ¬ ((done : Result Report Refusal) → record { number = 0; report = Nothing } ≡ answer_of done)
+pub world_answer_from_done_always : ¬ ((done : Result Report Refusal) → T (in_result in_Report anything done) → record { number = 0; report = Nothing } ≡ answer_of done)
 unfolding answer_of
-world_answer_from_done_always p = differ (λ (a : Answer). a.number) (p (Err BadWorld)) tt
+world_answer_from_done_always p = differ (λ (a : Answer). a.number) (p (Err BadWorld) tt) tt
 
-pub world_answer_from_refused_always : ¬ ((done : Result Report Refusal) → record { number = 1; report = Nothing } ≡ answer_of done)
+pub world_answer_from_refused_always : ¬ ((done : Result Report Refusal) → T (in_result in_Report anything done) → record { number = 1; report = Nothing } ≡ answer_of done)
 unfolding answer_of
-world_answer_from_refused_always p = differ (λ (a : Answer). a.number) (p (Ok Nothing)) tt
+world_answer_from_refused_always p = differ (λ (a : Answer). a.number) (p (Ok Nothing) tt) tt
 
 -- a write of desk 2 has ended
 abbrev wrote : Answer

@@ -1,7 +1,8 @@
 -- What a parameter of a type can be: a test for each type that a public function takes, so that a wrong program is refuted at an input that the function can
--- have. A struct passes where each of its fields does, an array where it has its length and each entry passes, an option where what it holds passes; a
--- `bool`, and a choice without fields, always does. (checks/total compares each with the source's declaration.) Assumes nothing.
-use Rattle.std.specs.Prelude.{Option, None, Some}
+-- have. A struct passes where each of its fields does, an array where it has its length and each entry passes, an option, or a result, where what it
+-- holds passes; a `bool`, and a choice without fields, always does. (checks/total compares each with the source's declaration.)
+-- Assumes nothing.
+use Rattle.std.specs.Prelude.{Option, None, Some, Result, Ok, Err}
 use mathlib.Core.Bool.{Bool, true, ◌&&◌}
 use mathlib.Core.List.{List, [], ◌∷◌}
 use Prim.Native.Nat.{ℕ}
@@ -63,11 +64,18 @@ in_bytes l = slice in_u8 l
 abbrev pub in_u32s : List ℕ → Bool
 in_u32s l = slice in_u32 l
 
--- ---- what may be there or not
+-- ---- of a type that stands for any: a program cannot look into it; what may be there or not; one of two
+
+abbrev pub anything : {A : Type 0} → A → Bool
+anything x = true
 
 abbrev pub in_option : {A : Type 0} → (A → Bool) → Option A → Bool
 in_option f None = true
 in_option f (Some x) = f x
+
+abbrev pub in_result : {A B : Type 0} → (A → Bool) → (B → Bool) → Result A B → Bool
+in_result f g (Ok x) = f x
+in_result f g (Err x) = g x
 
 -- ---- structs
 
@@ -130,9 +138,8 @@ in_Event (events.Opened x0) = in_u16 x0
 in_Event (events.ReadDone x0) = in_Pair x0
 in_Event (events.WriteDone x0) = in_Pair x0
 
--- whatever is so next
-abbrev pub in_Plan : {A : Type 0} → Plan A → Bool
-in_Plan x = in_Sendings x.sends && in_Event x.event
+abbrev pub in_Plan : {A : Type 0} → (A → Bool) → Plan A → Bool
+in_Plan f x = f x.next && in_Sendings x.sends && in_Event x.event
 
 abbrev pub in_Reader : Reader → Bool
 in_Reader x = in_bytes x.sheet.now && in_usize x.at
