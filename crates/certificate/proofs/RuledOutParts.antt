@@ -1,5 +1,5 @@
--- Wrong programs that the promises rule out: layout, messages, generator, relay and desk. Where a promise speaks of what a result means, so does the wrong program.
--- Assumes nothing.
+-- Wrong programs that the promises rule out: layout, messages, generator, relay and desk. Where a promise speaks of what a result means, so does the wrong
+-- program. Assumes nothing.
 use Rattle.std.specs.Prelude.{None, if◌then◌else◌}
 use mathlib.Core.Path.{◌≡◌}
 use mathlib.Core.Bool.{Bool, true, false, not}

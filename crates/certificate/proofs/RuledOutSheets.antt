@@ -62,7 +62,8 @@ abbrev low_first : List ℕ → ℕ → ℕ
 low_first b at = ((get_or b (at + 3) 0 * 256 + get_or b (at + 2) 0) * 256 + get_or b (at + 1) 0) * 256 + get_or b at 0
 
 pub sheet_step_at_low_byte_first : ¬ ((b : List ℕ) (at : ℕ) → T (in_bytes b) → T (in_usize at)
-    → (if leb (at + step_width version1) (length b) then Some (record { kind = get_or b at 0; id = get_or b (at + 1) 0; value = low_first b (at + value_at version1) })
+    → (if leb (at + step_width version1) (length b) then
+    Some (record { kind = get_or b at 0; id = get_or b (at + 1) 0; value = low_first b (at + value_at version1) })
     else None)
     ≡ step_at b at)
 unfolding step_at number_at form_of
@@ -95,7 +96,8 @@ abbrev room_first : List ℕ → ℕ → List ℕ → List ℕ → List ℕ → 
 room_first buf mask kinds ids values = if ltb (length buf) (sizes mask kinds ids values) then Err NoRoom else shortest buf mask kinds ids values
 
 pub sheet_write_answer_done_always : ¬ ((buf : List ℕ) (mask : ℕ) (kinds ids values : List ℕ) → T (in_bytes buf) → T (in_u8 mask) → T (in_bytes kinds) → T (in_bytes ids) → T (in_u32s values)
-    → (number_of (Ok (sizes mask kinds ids values)) ≡ number (ruled buf mask kinds ids values)) × (size_of (Ok (sizes mask kinds ids values)) ≡ ruled_size buf mask kinds ids values))
+    → (number_of (Ok (sizes mask kinds ids values)) ≡ number (ruled buf mask kinds ids values))
+    × (size_of (Ok (sizes mask kinds ids values)) ≡ ruled_size buf mask kinds ids values))
 unfolding steps_bytes sheet_bytes written listed ruled bytes_of
 sheet_write_answer_done_always p = differ itself (p [] 1 [] [] [] tt tt tt tt tt).0 tt
 
@@ -149,14 +151,16 @@ sheet_new_past_the_first_step p = differ itself (p lent tt).1 tt
 -- of a reader, the step that is given, and the reader past it
 pub sheet_reader_next_the_first_again : ¬ ((self : Reader) → T (in_Reader self)
     → (step_at self.sheet.now (front_of self.sheet.now) ≡ step_at self.sheet.now self.at)
-    × (((reader self.sheet (after_of self.sheet.now self.at)).sheet ≡ self.sheet) × ((reader self.sheet (after_of self.sheet.now self.at)).at ≡ after_of self.sheet.now self.at))
+    × (((reader self.sheet (after_of self.sheet.now self.at)).sheet ≡ self.sheet)
+    × ((reader self.sheet (after_of self.sheet.now self.at)).at ≡ after_of self.sheet.now self.at))
     × YieldsFirst steps_left self (step_at self.sheet.now (front_of self.sheet.now)) (reader self.sheet (after_of self.sheet.now self.at)))
 unfolding step_at number_at form_of
 sheet_reader_next_the_first_again p = differ found (p (reader lent 14) tt).0 tt
 
 pub sheet_reader_next_the_one_after : ¬ ((self : Reader) → T (in_Reader self)
     → (step_at self.sheet.now (self.at + step_width version1) ≡ step_at self.sheet.now self.at)
-    × (((reader self.sheet (after_of self.sheet.now self.at)).sheet ≡ self.sheet) × ((reader self.sheet (after_of self.sheet.now self.at)).at ≡ after_of self.sheet.now self.at))
+    × (((reader self.sheet (after_of self.sheet.now self.at)).sheet ≡ self.sheet)
+    × ((reader self.sheet (after_of self.sheet.now self.at)).at ≡ after_of self.sheet.now self.at))
     × YieldsFirst steps_left self (step_at self.sheet.now (self.at + step_width version1)) (reader self.sheet (after_of self.sheet.now self.at)))
 unfolding step_at number_at form_of
 sheet_reader_next_the_one_after p = differ found (p (reader lent 6) tt).0 tt
@@ -170,7 +174,8 @@ sheet_reader_next_not_moved p = differ itself (p (reader lent 6) tt).1.1 tt
 
 pub sheet_reader_next_moved_past_the_end : ¬ ((self : Reader) → T (in_Reader self)
     → (step_at self.sheet.now self.at ≡ step_at self.sheet.now self.at)
-    × (((reader self.sheet (self.at + step_width version1)).sheet ≡ self.sheet) × ((reader self.sheet (self.at + step_width version1)).at ≡ after_of self.sheet.now self.at))
+    × (((reader self.sheet (self.at + step_width version1)).sheet ≡ self.sheet)
+    × ((reader self.sheet (self.at + step_width version1)).at ≡ after_of self.sheet.now self.at))
     × YieldsFirst steps_left self (step_at self.sheet.now self.at) (reader self.sheet (self.at + step_width version1)))
 unfolding after_of form_of
 sheet_reader_next_moved_past_the_end p = differ itself (p (reader lent 22) tt).1.1 tt

@@ -14,7 +14,6 @@ use Rattle.rules.specs.Sending.{waiting_in}
 use Rattle.rules.specs.WellFormed.{well_formed}
 use Rattle.rules.specs.declared.Refusal.{Refusal}
 use Rattle.rules.specs.declared.Refusal.TheVariants.{BadWorld}
-use Rattle.rules.specs.Coded.{number_of}
 use Rattle.rules.specs.declared.Step.{Step}
 use Rattle.rules.specs.Steps.{after, stepped}
 use Rattle.layout.specs.Layout.{world_width}
@@ -32,8 +31,8 @@ use Rattle.sheet.specs.Writing as writing
 use Rattle.sheet.specs.Writing.{listed, buffer_of}
 use Rattle.record.specs.Lines.{laid}
 use Rattle.world.specs.Answer.{report_of, lent_of, answer_of}
-use Rattle.world.specs.Tracing.{waiting_rows, trace_row, trace_rows, Ruling, room_for, refused_by, refused_or, world_by, traces_wide, traced, steps_by, trace_by}
-use Rattle.world.specs.Tracing.{trace_answer, trace_world, trace_left}
+use Rattle.world.specs.Tracing.{waiting_rows, trace_row, trace_rows, Ruling, room_for, refused_by, refused_or, world_by, traces_wide, traced, steps_by}
+use Rattle.world.specs.Tracing.{trace_by, trace_answer, trace_world, trace_left}
 use Rattle.rehearsal.specs.Playing.{decided, answer_by, laid_by, rehearse_answer, world_left, record_left}
 use Rattle.world.specs.declared.Answer.{Answer}
 use Rattle.world.specs.declared.Report.TheVariants.{Nothing, WriteDone}
@@ -41,6 +40,7 @@ use Rattle.world.specs.declared.Report.{Report}
 use Rattle.world.proofs.Tracing.{waiting_rows_lem}
 use Rattle.rehearsal.specs.declared.Rehearsed.{Rehearsed}
 use Rattle.engine.specs.Told.{number_told, good_number, sheet_number, told_bytes, told_of, Stepped, telling, told_step, told_rehearsal}
+use Rattle.certificate.specs.Demand1.{rehearsed_number}
 use Rattle.certificate.proofs.RuledOutSheets.{headed}
 use Rattle.certificate.proofs.Differ.{differ, itself, truth, entry}
 use Rattle.certificate.proofs.Typed.{anything, in_result, in_Report, in_bytes, in_u32, in_u32s, in_u8, in_Answer, in_Step}
@@ -107,11 +107,13 @@ unfolding lent_of
 world_start_nothing_changed p = starts_differ (buffer_of_lem (p two 1 two_bytes tt ∙ start_of_lem two (length-image (start 2))))
 
 -- what was done, or a refusal, as an answer
-pub world_answer_from_done_always : ¬ ((done : Result Report Refusal) → T (in_result in_Report anything done) → record { number = 0; report = Nothing } ≡ answer_of done)
+pub world_answer_from_done_always : ¬ ((done : Result Report Refusal) → T (in_result in_Report anything done)
+    → record { number = 0; report = Nothing } ≡ answer_of done)
 unfolding answer_of
 world_answer_from_done_always p = differ (λ (a : Answer). a.number) (p (Err BadWorld) tt) tt
 
-pub world_answer_from_refused_always : ¬ ((done : Result Report Refusal) → T (in_result in_Report anything done) → record { number = 1; report = Nothing } ≡ answer_of done)
+pub world_answer_from_refused_always : ¬ ((done : Result Report Refusal) → T (in_result in_Report anything done)
+    → record { number = 1; report = Nothing } ≡ answer_of done)
 unfolding answer_of
 world_answer_from_refused_always p = differ (λ (a : Answer). a.number) (p (Ok Nothing) tt) tt
 
@@ -169,15 +171,10 @@ one_long = length-image (start 1)
 abbrev two_long : length two ≡ world_width
 two_long = length-image (start 2)
 
--- of a trace's answer, document 01's number
-abbrev trace_number : Result ℕ Refusal → ℕ
-trace_number (Ok n) = 0
-trace_number (Err x) = number_of x
-
 pub world_trace_answer_done_always : ¬ ((sheet world rows : List ℕ) → T (in_bytes sheet) → T (in_bytes world) → T (in_bytes rows)
     → Ok (steps_of sheet) ≡ trace_answer sheet world rows)
 unfolding trace_answer traced
-world_trace_answer_done_always p = differ trace_number (p blank [] row tt tt tt) tt
+world_trace_answer_done_always p = differ writing.number_of (p blank [] row tt tt tt) tt
 
 abbrev answer_after : Ruling → Result ℕ Refusal
 answer_after x = refused_or (steps_by x) (refused_by x)
@@ -208,7 +205,7 @@ pub world_trace_answer_done_without_room : ¬ ((sheet world rows : List ℕ) →
     ≡ trace_answer sheet world rows)
 unfolding sheet_in steps_in all_zeros_in all_zero all form_of number_at
 world_trace_answer_done_without_room p =
-    differ trace_number (sym (long_right one one_long _ _) ∙ p written one [] tt one_bytes tt ∙ trace_answered_there one one_long written []) tt
+    differ writing.number_of (sym (long_right one one_long _ _) ∙ p written one [] tt one_bytes tt ∙ trace_answered_there one one_long written []) tt
 
 pub world_trace_last_as_it_was : ¬ ((sheet world rows : List ℕ) → T (in_bytes sheet) → T (in_bytes world) → T (in_bytes rows)
     → world ≡ trace_world sheet world rows)
@@ -235,9 +232,6 @@ world_trace_rows_of_accepted_steps_only p =
 -- ---- rehearsal
 
 -- a page that the record of no step fills, one with room for the record of a step, and one of a byte
-abbrev rehearsed_number : Rehearsed → ℕ
-rehearsed_number r = number_told r.refused
-
 abbrev page : List ℕ
 page = replicate 20 7
 
@@ -271,20 +265,26 @@ module _ (world : List ℕ) (e : length world ≡ world_width) (sheet out : List
   printed_there = ap (laid_by out) ruled_there
 
 pub rehearsal_rehearse_answer_done_without_room : ¬ ((sheet world out : List ℕ) → T (in_bytes sheet) → T (in_bytes world) → T (in_bytes out)
-    → (if eqb (length world) world_width && ltb (length out) (length (rehearsed sheet)) then record { refused = None; length = length (rehearsed sheet) } else rehearse_answer sheet world out) ≡ rehearse_answer sheet world out)
+    → (if eqb (length world) world_width && ltb (length out) (length (rehearsed sheet)) then record { refused = None; length = length (rehearsed sheet) }
+    else rehearse_answer sheet world out)
+    ≡ rehearse_answer sheet world out)
 unfolding answer_by longest sheet_in steps_in all_zeros_in recorded rehearsed all_zero all form_of number_at
 rehearsal_rehearse_answer_done_without_room p =
     differ rehearsed_number (sym (long_right one one_long _ _) ∙ p blank one [] tt one_bytes tt ∙ answered_there one one_long blank []) tt
 
 -- a record that would just fit, in a buffer that the longest of as many steps does not fit into
 pub rehearsal_rehearse_answer_room_by_the_record : ¬ ((sheet world out : List ℕ) → T (in_bytes sheet) → T (in_bytes world) → T (in_bytes out)
-    → (if eqb (length world) world_width && leb (length (rehearsed sheet)) (length out) then record { refused = None; length = length (rehearsed sheet) } else rehearse_answer sheet world out) ≡ rehearse_answer sheet world out)
+    → (if eqb (length world) world_width && leb (length (rehearsed sheet)) (length out) then record { refused = None; length = length (rehearsed sheet) }
+    else rehearse_answer sheet world out)
+    ≡ rehearse_answer sheet world out)
 unfolding answer_by longest sheet_in steps_in all_zeros_in recorded rehearsed all_zero all form_of number_at
 rehearsal_rehearse_answer_room_by_the_record p =
     differ rehearsed_number (sym (long_right one one_long _ _) ∙ p blank one page tt one_bytes tt ∙ answered_there one one_long blank page) tt
 
 pub rehearsal_rehearse_answer_bad_sheet_done : ¬ ((sheet world out : List ℕ) → T (in_bytes sheet) → T (in_bytes world) → T (in_bytes out)
-    → (if eqb (length world) world_width && is_bad_sheet sheet then record { refused = None; length = length bad_of } else rehearse_answer sheet world out) ≡ rehearse_answer sheet world out)
+    → (if eqb (length world) world_width && is_bad_sheet sheet then record { refused = None; length = length bad_of }
+    else rehearse_answer sheet world out)
+    ≡ rehearse_answer sheet world out)
 unfolding answer_by sheet_in line digits
 rehearsal_rehearse_answer_bad_sheet_done p =
     differ rehearsed_number (sym (long_right one one_long _ _) ∙ p [] one page tt one_bytes tt ∙ answered_there one one_long [] page) tt
@@ -383,8 +383,8 @@ stepped_there : (W : World) → well_formed W ≡ true → (kind id value : ℕ)
 unfolding told_step
 stepped_there W g kind id value = ap (telling nine) (step_of W g (record { kind = kind; id = id; value = value }))
 
-stepped_answer : {x y : Stepped} → x ≡ y → x.answer ≡ y.answer
-stepped_answer e = ap (λ (x : Stepped). x.answer) e
+answered : {x y : Stepped} → x ≡ y → x.answer ≡ y.answer
+answered e = ap (λ (x : Stepped). x.answer) e
 
 told_of_lem : {x y : Stepped} → x ≡ y → x.told ≡ y.told
 told_of_lem e = ap (λ (x : Stepped). x.told) e
@@ -397,14 +397,14 @@ kept_there w kind id value = refl
 pub engine_world_step_answer_refused_always : ¬ ((w : List ℕ) (kind id value : ℕ) (told : List ℕ) → T (in_bytes w) → T (in_u8 kind) → T (in_u8 id) → T (in_u32 value) → T (in_bytes told)
     → 1 ≡ (told_step w kind id value told).answer)
 unfolding recorded
-engine_world_step_answer_refused_always p = differ itself (p one 5 0 77 nine one_bytes tt tt tt tt ∙ stepped_answer (stepped_there (start 1) one_formed 5 0 77)) tt
+engine_world_step_answer_refused_always p = differ itself (p one 5 0 77 nine one_bytes tt tt tt tt ∙ answered (stepped_there (start 1) one_formed 5 0 77)) tt
 
 -- the write is done, though nothing can be told
 pub engine_world_step_answer_done_untold : ¬ ((w : List ℕ) (kind id value : ℕ) (told : List ℕ) → T (in_bytes w) → T (in_u8 kind) → T (in_u8 id) → T (in_u32 value) → T (in_bytes told)
     → (lent_step w (record { kind = kind; id = id; value = value })).answer ≡ (told_step w kind id value told).answer)
 unfolding recorded
 engine_world_step_answer_done_untold p =
-    differ itself (sym (ap number (step_of (start 1) one_formed write)) ∙ p one 5 0 77 [] one_bytes tt tt tt tt ∙ stepped_answer (kept_there one 5 0 77)) tt
+    differ itself (sym (ap number (step_of (start 1) one_formed write)) ∙ p one 5 0 77 [] one_bytes tt tt tt tt ∙ answered (kept_there one 5 0 77)) tt
 
 pub engine_world_step_buffer_as_it_was : ¬ ((w : List ℕ) (kind id value : ℕ) (told : List ℕ) → T (in_bytes w) → T (in_u8 kind) → T (in_u8 id) → T (in_u32 value) → T (in_bytes told)
     → w ≡ (told_step w kind id value told).buffer)
@@ -495,7 +495,7 @@ engine_sheet_rehearse_length_told_by_a_refusal p = differ (entry 0) (p blank [] 
 
 -- told after an answer
 abbrev told_after : Rehearsed → List ℕ
-told_after r = if eqb (number_told r.refused) 0 then be32 r.length ++ [] else replicate 4 7
+told_after r = if eqb (rehearsed_number r) 0 then be32 r.length ++ [] else replicate 4 7
 
 pub engine_sheet_rehearse_length_not_told : ¬ ((sheet world out told : List ℕ) → T (in_bytes sheet) → T (in_bytes world) → T (in_bytes out) → T (in_bytes told)
     → told ≡ (told_rehearsal sheet world out told).told)
