@@ -1,5 +1,6 @@
 """What checks/total reads: the public functions of the sources, with their parameters and promises, and the statements of the certificate, each name of
 which is followed through the imports of its file to the module that defines it. What cannot be read is an Unread, never passed over."""
+import collections
 import functools
 import glob
 import os
@@ -241,6 +242,11 @@ def closing(words, at):
 # ---- sources: types
 
 NUMBERS = {'u8': 256, 'u16': 65536, 'u32': 4294967296, 'usize': 18446744073709551616}
+LIST, OPTION, RESULT_TYPE = 'mathlib.Core.List.List', 'Rattle.core.specs.declared.option.Option.Option', 'Rattle.core.specs.declared.result.Result.Result'
+# the library's types that take types, by the names that every source knows, each with how many it takes
+TAKING = {'Option': (OPTION, 1), 'Result': (RESULT_TYPE, 2)}
+# what the tests of a type's own types are called, in their order, where its test is defined
+TESTS = 'fgh'
 
 
 def sources():
@@ -255,13 +261,31 @@ def place(path):
     return found[1], '' if found[2] == 'lib' else found[2]
 
 
-# Each struct and enum by its path, as stamps::Pair: its source, what it is, and its text.
+# Each struct and enum by its path, as stamps::Pair: its source, what it is, what it takes, and its text.
 @functools.lru_cache(None)
 def types():
     found = {}
     for path in sources():
-        for kind, name, text in re.findall(r'\b(struct|enum)\s+(\w+)(?:<[^>]*>)?\s*\{((?:[^{}]|\{[^{}]*\})*)\}', code(path)):
-            found['::'.join(filter(None, (*place(path), name)))] = (path, kind, text)
+        for kind, name, taken, text in re.findall(r'\b(struct|enum)\s+(\w+)(?:<([^>]*)>)?\s*\{((?:[^{}]|\{[^{}]*\})*)\}', code(path)):
+            found['::'.join(filter(None, (*place(path), name)))] = (path, kind, taken, text)
+    return found
+
+
+# The parts of a list, parted by the commas that stand in no parentheses of it.
+def parted(text):
+    parts, depth = [''], 0
+    for mark in text:
+        depth += (mark in '([{<') - (mark in ')]}>')
+        parts = [*parts, ''] if mark == ',' and depth == 0 else [*parts[:-1], parts[-1] + mark]
+    return [part.strip() for part in parts if part.strip()]
+
+
+# The types that a type or a function takes, by their names; lifetimes say nothing here. What a type has to fulfil is not read.
+def taken_types(path, text):
+    found = [part for part in parted(text) if not re.fullmatch(r"'\w+", part)]
+    for part in found:
+        if not re.fullmatch(r'[A-Z]\w*', part) or part in {*TAKING, 'Self'}:
+            raise Unread(f'{path}: what is taken as <{part}> is not read')
     return found
 
 
@@ -277,11 +301,18 @@ def used(path):
     return found
 
 
-# The path of a type's name in a source, through its `use` lines.
-def type_path(path, name):
+# The path of a name in a source, through its `use` lines.
+def full_path(path, name):
     crate, module = place(path)
-    full = used(path).get(name, name if '::' in name else '::'.join(filter(None, (crate, module, name))))
-    full = re.sub(r'^(super|crate)::', f'{crate}::', re.sub(r'^self::', '::'.join(filter(None, (crate, module, ''))), full))
+    head, _, rest = name.partition('::')
+    full = used(path).get(head, head if rest or head in ('self', 'super', 'crate') else '::'.join(filter(None, (crate, module, head))))
+    full = '::'.join(filter(None, (full, rest)))
+    return re.sub(r'^(super|crate)::', f'{crate}::', re.sub(r'^self::', '::'.join(filter(None, (crate, module, ''))), full))
+
+
+# The path of a type's name in a source.
+def type_path(path, name):
+    full = full_path(path, name)
     if full not in types():
         raise Unread(f'{path}: the type {name} ({full}) is not read')
     return full
@@ -293,6 +324,11 @@ def declared_path(full):
     return '.'.join([f'Rattle.{crate}.specs.declared', *modules, name, name])
 
 
+# A variant of a choice, by the choice's name in the certificate.
+def variant_of(declared, variant):
+    return f'{declared.rsplit(".", 1)[0]}.TheVariants.{variant}'
+
+
 # Of a type as a source spells it: how it is lent, and the type without lifetimes.
 def bare(text):
     text = ' '.join(text.split())
@@ -301,94 +337,163 @@ def bare(text):
     return how, re.sub(r"<'\w+>", '', text[lent.end():] if lent else text)
 
 
-# The length of an array: a number, or a constant of the same source.
+# The length of an array: a number, or a constant of this source or of another crate, which is a number or such a constant.
 def array_length(path, text):
-    named = re.search(rf'\bconst {text}: usize = (\d+);', code(path))
-    if not named and not text.isdigit():
+    if text.isdigit():
+        return text
+    crate, *modules, name = full_path(path, text).split('::')
+    file = f'crates/{crate}/src/{"/".join(modules) or "lib"}.rt'
+    named = re.findall(rf'\bconst {name}: usize = ([^;]*);', code(file)) if os.path.exists(file) else []
+    if len(named) != 1 or not re.fullmatch(r'[\w:]+', named[0]):
         raise Unread(f'{path}: the length {text} of an array is not read')
-    return named[1] if named else text
+    return array_length(file, named[0])
 
 
-# The test of Typed.antt that a type's values pass, as its name and what it is applied to; none where every value passes.
-def test(path, text, of):
-    how, kind = bare(text)
-    array = re.fullmatch(r'\[(.+); (\w+)\]', kind)
-    if kind == 'bool':
-        return None
-    if kind in NUMBERS:
-        return f'in_{kind} {of}'
-    if kind in ('[u8]', '[u32]'):
-        return f'in_{"bytes" if kind == "[u8]" else "u32s"} ' + (f'{of}.now' if how == 'held' else of)
+# What a type is, without how it is lent: its form, what it is built on, and the types that it takes. `taken` are the names of types that stand for any.
+def shape(path, kind, taken=()):
+    array, listed = re.fullmatch(r'\[(.+); ([\w:]+)\]', kind), re.fullmatch(r'\[([^;]+)\]', kind)
+    named = re.fullmatch(r'([\w:]+)(?:<(.+)>)?', kind)
+    if kind in taken or kind in NUMBERS or kind == 'bool':
+        return ('any' if kind in taken else 'bool' if kind == 'bool' else 'number'), kind, []
     if array:
-        return f'array {array_length(path, array[2])} {test(path, array[1], "").strip()} {of}'
-    full = type_path(path, kind)
-    return f'in_{kind.split("::")[-1]} {of}' if tests_of(full) != [] else None
+        return 'array', array_length(path, array[2]), [shape(path, array[1], taken)]
+    if listed:
+        return 'slice', None, [shape(path, listed[1], taken)]
+    if kind.startswith('(') and kind.endswith(')') and len(parted(kind[1:-1])) > 1:
+        return 'tuple', None, [shape(path, part, taken) for part in parted(kind[1:-1])]
+    if not named:
+        raise Unread(f'{path}: the type {kind} is not read')
+    given, own = parted(named[2] or ''), full_path(path, named[1])
+    known = TAKING.get(named[1]) if named[1] not in used(path) and own not in types() else None
+    full, many = known or (type_path(path, named[1]), len(taken_types(path, types()[own][2])) if own in types() else 0)
+    if len(given) != many:
+        raise Unread(f'{path}: the type {kind} takes {many} types')
+    return (named[1] if known else 'own'), full, [shape(path, part, taken) for part in given]
+
+
+# A type as the certificate spells it; `taken` says what is said for a type that stands for any.
+def spelt(form, taken):
+    def operand(part):
+        words = spelt(part, taken)
+        return words if len(words) == 1 else ['(', *words, ')']
+    kind, on, parts = form
+    if kind == 'any':
+        return [taken[on]]
+    if kind == 'tuple':
+        return [word for part in parts for word in ('×', *(operand(part) if part[0] == 'tuple' else spelt(part, taken)))][1:]
+    heads = {'number': 'Prim.Native.Nat.ℕ', 'bool': 'mathlib.Core.Bool.Bool', 'array': LIST, 'slice': LIST}
+    head = heads.get(kind) or (declared_path(on) if kind == 'own' else on)
+    return [head, *(word for part in parts for word in operand(part))]
+
+
+# The test of Typed.antt that a type's values pass, as a function; none where every value passes. Of a type that stands for any, every value does: a program
+# cannot look into it. `tests` are those of the types that the type itself takes, where its own test is defined.
+def test_of(form, tests):
+    def operand(part):
+        found = test_of(part, tests) or 'anything'
+        return f'({found})' if ' ' in found else found
+    kind, on, parts = form
+    if kind in ('bool', 'any'):
+        return tests.get(on)
+    if kind == 'number':
+        return f'in_{on}'
+    if kind == 'slice' and parts[0][:2] in (('number', 'u8'), ('number', 'u32')):
+        return 'in_bytes' if parts[0][1] == 'u8' else 'in_u32s'
+    if kind in ('array', 'slice'):
+        return ' '.join(filter(None, (kind, on, operand(parts[0]))))
+    if kind in TAKING:
+        return f'in_{kind.lower()} {" ".join(map(operand, parts))}' if any(test_of(part, tests) for part in parts) else None
+    if kind != 'own':
+        raise Unread(f'no test is known of a {kind}')
+    return ' '.join([f'in_{on.split("::")[-1]}', *map(operand, parts)]) if tests_of(on) else None
+
+
+# The same of a type as a source spells it, applied; what is held for longer is as it is now.
+def test(path, text, of, taken=(), tests={}):
+    how, kind = bare(text)
+    found = test_of(shape(path, kind, taken), tests)
+    return found and f'{found} {of}' + ('.now' if how == 'held' else '')
 
 
 # The fields of a struct with their types; of a choice each variant with its fields.
 def members(full):
-    path, kind, text = types()[full]
-    if kind == 'struct':
-        return path, [(n, t.strip()) for n, t in re.findall(r'(\w+)\s*:\s*([^,]+)', text)]
-    return path, [(v, fields(a, b)) for v, a, b in re.findall(r'(\w+)\s*(?:\{([^}]*)\}|\(([^)]*)\))?\s*(?:,|$)', text)]
+    path, kind, taken, text = types()[full]
+    text = re.sub(r'#\[[^\]]*\]', '', text)
+    return path, named_fields(path, text) if kind == 'struct' else [variant(path, part) for part in parted(text)]
 
 
-# The fields of a variant, which have names or places.
-def fields(named, placed):
-    return re.findall(r'(\w+)\s*:\s*([^,]+)', named) or [(f'x{at}', t.strip()) for at, t in enumerate(filter(None, placed.split(',')))]
+def named_fields(path, text):
+    found = [re.fullmatch(r'(?:pub(?:\([^)]*\))? )?(\w+)\s*:\s*(.+)', part, re.S) for part in parted(text)]
+    if not all(found):
+        raise Unread(f'{path}: these fields are not understood: {" ".join(text.split())}')
+    return [(field[1], field[2]) for field in found]
 
 
-# The lines that define a type's test, as they stand in Typed.antt; none where every value passes.
+# A variant with its fields, which have names or places; that it has a number says nothing of its values.
+def variant(path, text):
+    found = re.fullmatch(r'(\w+)\s*(?:\{(.*)\}|\((.*)\)|= \d+)?', text, re.S)
+    if not found:
+        raise Unread(f'{path}: this variant is not understood: {text}')
+    return found[1], named_fields(path, found[2] or '') or [(f'x{at}', part) for at, part in enumerate(parted(found[3] or ''))]
+
+
+# The lines that define a type's test, as they stand in Typed.antt, with each variant's full name; none where every value passes.
+@functools.lru_cache(None)
 def tests_of(full):
     path, listed = members(full)
-    name = 'in_' + full.split('::')[-1]
+    taken = taken_types(path, types()[full][2])
+    tests = dict(zip(taken, TESTS[:len(taken)], strict=True))
+    name = ' '.join(['in_' + full.split('::')[-1], *tests.values()])
     if types()[full][1] == 'struct':
-        found = [test(path, t, f'x.{n}') for n, t in listed]
+        found = [test(path, t, f'x.{n}', taken, tests) for n, t in listed]
         return [f'{name} x = ' + ' && '.join(filter(None, found))] if any(found) else []
     lines = []
-    for variant, parts in listed:
-        found = list(filter(None, (test(path, t, n) for n, t in parts)))
-        left = f'({" ".join([variant] + [n for n, _ in parts])})' if parts else variant
-        lines.append(f'{name} {left} = ' + (' && '.join(found) or 'true'))
+    for which, parts in listed:
+        found = list(filter(None, (test(path, t, n, taken, tests) for n, t in parts)))
+        of = ' '.join([variant_of(declared_path(full), which)] + [n for n, _ in parts])
+        lines.append(f'{name} {f"({of})" if parts else of} = ' + (' && '.join(found) or 'true'))
     return lines if any(not line.endswith('= true') for line in lines) else []
 
 
 # ---- sources: functions
 
 class Function:
-    def __init__(self, path, name, parameters, result, promises):
-        crate, self.module = place(path)
-        self.path, self.parameters, self.result, self.promises = path, parameters, result, promises
-        self.key = f'{crate}_{name}'
+    # `names` is what the promises' variables mean, where they are not the parameters' names and `result`.
+    def __init__(self, path, name, parameters, result, promises, taken=(), names=None):
+        self.path, self.parameters, self.result, self.promises, self.names = path, parameters, result, promises, names
+        self.key = f'{place(path)[0]}_{name}'
+        # the types that it takes, each known by its place
+        self.taken = {variable: f'%{at}' for at, variable in enumerate(taken)}
 
     # The type of a parameter or of the result, as the certificate's binders have it.
     def antt(self, text):
         how, kind = bare(text)
-        if kind in NUMBERS:
-            return ['Prim.Native.Nat.ℕ']
-        if kind == 'bool':
-            return ['mathlib.Core.Bool.Bool']
-        if kind in ('[u8]', '[u32]'):
-            listed = ['mathlib.Core.List.List', 'Prim.Native.Nat.ℕ']
-            return ['denote.Ref.Bor', '(', *listed, ')'] if how == 'held' else listed
-        return [declared_path(type_path(self.path, kind))]
+        words = spelt(shape(self.path, kind, self.taken), self.taken)
+        return words if how != 'held' else ['denote.Ref.Bor', *(words if len(words) == 1 else ['(', *words, ')'])]
 
-    # Each parameter as the certificate knows it: its place.
+    # Each parameter as the certificate knows it: its place. First, the types that the function takes.
     def binders(self):
-        return [(f'#{at}', self.antt(kind)) for at, (name, kind) in enumerate(self.parameters)]
+        return [(place, ['Type', '0']) for place in self.taken.values()] + [(f'#{at}', self.antt(kind)) for at, (name, kind) in enumerate(self.parameters)]
 
     # What the types say of the inputs, one premise for each parameter that could be out of range.
     def premises(self):
-        found = [test(self.path, kind, f'#{at}') for at, (name, kind) in enumerate(self.parameters)]
+        found = [test(self.path, kind, f'#{at}', self.taken) for at, (name, kind) in enumerate(self.parameters)]
         return [premise for premise in found if premise]
+
+    # What the variables of the promises mean, before it is known of which moment a parameter is spoken.
+    def bound(self):
+        return self.taken | (self.names or {name: f'@{at}' for at, (name, kind) in enumerate(self.parameters)} | {RESULT: '#r'})
+
+    # How a promise speaks of a parameter, each form with what it means.
+    def spellings(self, at):
+        return [(f'#{at}', f'#{at}'), (f"#{at}'", f"#{at}'")] if self.names else spellings(at, self.parameters[at][1])
 
     # The promise of this label, resolved: #0 is the first parameter as it was, #0' what it holds afterwards, #r the result.
     def promised(self, label):
-        bound = {name: f'@{at}' for at, (name, kind) in enumerate(self.parameters)} | {RESULT: '#r'}
-        text = ' '.join(resolve(self.path, tokens(self.promises[label]), bound))
-        for at, (name, kind) in enumerate(self.parameters):
-            for spelt, what in spellings(at, kind):
-                text = re.sub(rf'(?<!\S){spelt}(?!\S)', what, text)
+        text = ' '.join(resolve(self.path, tokens(self.promises[label]), self.bound()))
+        for at in range(len(self.parameters)):
+            for form, what in self.spellings(at):
+                text = re.sub(rf'(?<!\S){form}(?!\S)', what, text)
         if '@' in text:
             raise Unread(f'{self.key}: a lent parameter is not spelt `x.now`, `x.old` or `x.new`: {text}')
         return unbracketed(text.split())
@@ -412,22 +517,48 @@ def inside(text, at, close):
     raise Unread('not closed: ' + text[at:at + 60])
 
 
+# An impl of a source: where its block begins and ends, the types that it takes, the trait (none of a type's own functions), and the type.
+Impl = collections.namedtuple('Impl', 'start end taken trait kind')
+
+
+@functools.lru_cache(None)
+def impls(path):
+    text, found = code(path), []
+    for block in re.finditer(r'\bimpl\b([^{;]*)\{', text):
+        head = re.fullmatch(r'\s*(?:<([^<>]*)>)?\s*(?:([\w:]+(?:<.*>)?)\s+for\s+)?([\w:]+(?:<.*>)?)\s*', block[1], re.S)
+        if not head and re.search(r'\bfor\b', block[1]):
+            raise Unread(f'{path}: {" ".join(block[0][:-1].split())}: what a trait makes public is not read')
+        if head:
+            found.append(Impl(block.end() - 1, inside(text, block.end() - 1, '}')[1], head[1] or '', head[2], head[3]))
+    return found
+
+
+# The impl that a place is within, if any: a type's own function is as public as the type, in whatever module it stands.
+def impl_at(path, at):
+    return next((block for block in reversed(impls(path)) if block.start < at < block.end), None)
+
+
 # The parameters of a function: each with its type; `self` has the type of the impl that it stands in.
-def parameters(path, text, start, listed):
+def parameters(path, listed, own):
     found = []
-    for part in filter(None, (p.strip() for p in re.split(r',(?![^\[<(]*[\]>)])', listed))):
+    for part in parted(listed):
         self_ = re.fullmatch(r"(&(?:'\w+ )?(?:mut )?)?(?:mut )?self", part)
         pair = re.fullmatch(r'(?:mut )?(\w+)\s*:\s*(.+)', part, re.S)
-        if self_:
-            found.append(('self', (self_[1] or '') + re.findall(r'\bimpl(?:<[^>]*>)? (\w+)', text[:start])[-1]))
+        if self_ and own:
+            found.append(('self', (self_[1] or '') + own))
         elif pair:
-            found.append((pair[1], pair[2]))
+            found.append((pair[1], of_impl(pair[2], own)))
         else:
             raise Unread(f'{path}: this parameter is not understood: {part}')
     return found
 
 
-# What follows the parameters, up to the body: the result's type, and each clause with its label and text.
+# A type within an impl: `Self` is the impl's.
+def of_impl(text, own):
+    return re.sub(r'\bSelf\b', lambda _: own, text) if own and text else text
+
+
+# What follows the parameters, up to the body: the result's type, each clause with its label and text, and where the body begins.
 def clauses(path, name, text, at):
     result, found = re.match(r'\s*(?:->\s*([^{;]+?))?\s*(?=\b(?:ensures|requires)\b|[{;]|\b\w+\s*\{)', text[at:]), []
     if not result:
@@ -438,17 +569,29 @@ def clauses(path, name, text, at):
         if not clause:
             if not re.match(r'\s*[{;]', text[at:]):
                 raise Unread(f'{path}: {name}: what follows its clauses is not understood: {" ".join(text[at:at + 40].split())}')
-            return result[1], found
+            return result[1], found, at + len(text[at:]) - len(text[at:].lstrip())
         body, at = inside(text, at + clause.end(), '}')
         found.append((clause[1], clause[2], ' '.join(body.split())))
 
 
-# The function of this name, after which start the parameters.
-def function(path, name, start):
-    text = code(path)
-    at = re.match(r'(?:\s*<[^>]*>)?\s*', text[start:]).end() + start
-    listed, at = inside(text, at, ')')
-    result, found = clauses(path, name, text, at)
+# The head of a function, after whose name it starts: the types that it takes, its parameters, its result, its clauses, and where its body begins.
+def head(path, name, start):
+    text, block = code(path), impl_at(path, start)
+    taken = re.match(r'\s*(?:<([^<>]*)>)?\s*(?=\()', text[start:])
+    if not taken:
+        raise Unread(f'{path}: the head of {name} is not understood')
+    listed, at = inside(text, start + taken.end(), ')')
+    result, found, body = clauses(path, name, text, at)
+    own = block and block.kind
+    every = taken_types(path, block.taken if block else '') + taken_types(path, taken[1] or '')
+    return every, parameters(path, listed, own), of_impl(result, own), found, body
+
+
+# The function of this name, after which start the parameters; of a trait's, its impl.
+def function(path, name, start, block=None):
+    if block:
+        return trait_function(path, name, start, block)
+    taken, listed, result, found, _ = head(path, name, start)
     promises = {}
     for word, label, body in found:
         if word != 'ensures' or not body or re.search('[⌜⌝]', body):
@@ -458,8 +601,94 @@ def function(path, name, start):
         promises[label] = body
     if not promises:
         raise Unread(f'{path}: {name} promises nothing')
-    return Function(path, name, parameters(path, text, start, listed), result, promises)
+    return Function(path, name, listed, result, promises, taken)
 
+
+# ---- sources: traits
+
+# The traits of the library that are read, with what an impl of them says: its types, the ghost that is the promise, its other ghosts, and its function.
+TRAITS = {
+    'From': ((), 'from_gives', (), 'from'),
+    'TryFrom': (('Error',), 'try_from_gives', (), 'try_from'),
+    'Iterator': (('Item',), 'next_gives', ('remaining',), 'next'),
+}
+
+
+# Each trait that a source declares, by its path: whether it is public, which it is not where it is private or its crate's only.
+@functools.lru_cache(None)
+def own_traits():
+    found = {}
+    for path in sources():
+        for public_, name in re.findall(r'(?:\b(pub(?:\s*\([^)]*\))?)\s+)?(?:unsafe\s+)?\btrait\s+(\w+)', code(path)):
+            found['::'.join(filter(None, (*place(path), name)))] = public_ == 'pub'
+    return found
+
+
+# The trait of an impl: none where it is not public, and so makes nothing public; a name of TRAITS; another one is not read.
+def public_trait(path, block):
+    name = re.match(r'[\w:]+', block.trait)[0]
+    full = full_path(path, name)
+    if full in own_traits() and not own_traits()[full] and full.split('::')[0] == place(path)[0]:
+        return None
+    if name in TRAITS and name not in used(path) and full not in own_traits():
+        return name
+    raise Unread(f'{path}: impl {" ".join(block.trait.split())} for {block.kind}: what a trait makes public is not read')
+
+
+# What stands in an impl of a trait: its types, its ghosts with their texts, and its functions with the places after their names.
+def stated_in(path, block):
+    text, at, found = code(path), block.start + 1, {'type': {}, 'ghost': {}, 'fn': {}}
+    while at < block.end - 1:
+        item = re.compile(r'\s*(?:(#)(?=\[)|(type) (\w+) = ([^;{}]+);|(ghost) (\w+)\s*=\s*(?=\{)|(fn) (\w+)|$)').match(text, at, block.end - 1)
+        if not item:
+            raise Unread(f'{path}: this is not understood in an impl of a trait: {" ".join(text[at:at + 60].split())}')
+        at = item.end()
+        if item[1]:
+            at = inside(text, at, ']')[1]
+        elif item[2]:
+            found['type'][item[3]] = item[4]
+        elif item[5]:
+            found['ghost'][item[6]], at = inside(text, at, '}')
+            at += re.match(r'\s*;|', text[at:]).end()
+        elif item[7]:
+            found['fn'][item[8]] = at
+            at = inside(text, head(path, item[8], at)[-1], '}')[1]
+    return found
+
+
+# The functions that an impl of a trait of the library makes public: their names, with the places after them.
+def trait_functions(path, block):
+    trait = public_trait(path, block)
+    if not trait:
+        return []
+    kinds, promise, others, name = TRAITS[trait]
+    stated = stated_in(path, block)
+    if promise not in stated['ghost']:
+        raise Unread(f'{path}: impl {trait} for {block.kind} promises nothing: it has no ghost {promise}')
+    if [*stated['fn']] != [name] or not {*stated['type']} <= {*kinds} or not {*stated['ghost']} <= {promise, *others}:
+        raise Unread(f'{path}: impl {trait} for {block.kind}: something in it is not read')
+    return [(path, name, stated['fn'][name], block)]
+
+
+# A function of a trait. Its promise is the ghost `λ x r. ..` of the parameters and the result, or `λ s r t. ..` where `s` is what is lent, as it was, and `t`
+# the same afterwards. It is known by its type too: rules_step_kind_try_from.
+def trait_function(path, name, start, block):
+    taken, listed, result, found, _ = head(path, name, start)
+    text = stated_in(path, block)['ghost'][TRAITS[public_trait(path, block)][1]]
+    words = tokens(text)
+    names = words[1:words.index('.')] if words[:1] == ['λ'] and '.' in words else []
+    ways = [bare(kind)[0] for _, kind in listed]
+    meant = {'value': ['#0', '#r'], 'mut': ['#0', '#r', "#0'"]}.get(''.join(ways), [])
+    if found or not names or len(names) != len(meant) or len({*names}) != len(names) or not all(re.fullmatch(r'\w+', word) for word in names):
+        raise Unread(f'{path}: impl {block.trait} for {block.kind}: its promise is not understood: {" ".join(text.split())}')
+    body = ' '.join(text.split('.', 1)[1].split())
+    if not body or re.search('[⌜⌝]', body):
+        raise Unread(f'{path}: impl {block.trait} for {block.kind}: this is no promise: {body}')
+    kind = re.sub(r'(?<!^)(?=[A-Z])', '_', bare(block.kind)[1].split('<')[0].split('::')[-1]).lower()
+    return Function(path, f'{kind}_{name}', [(names[0], listed[0][1])], result, {'': body}, taken, dict(zip(names, meant)))
+
+
+# ---- sources: what is public
 
 # The static libraries of crates.txt, each with the crates that it stands on.
 @functools.lru_cache(None)
@@ -474,18 +703,13 @@ def is_public(path):
     return not module or (os.path.exists(lib) and re.search(rf'^\s*pub mod {module}\b', code(lib), re.M) is not None)
 
 
-# Whether this place is within an impl: a type's own function is as public as the type, in whatever module it stands.
-def in_impl(text, at):
-    blocks = (found.end() - 1 for found in re.finditer(r'\bimpl\b[^{;]*\{', text[:at]))
-    return any(inside(text, start, '}')[1] > at for start in blocks)
-
-
 # Where the public functions of a source start, for `function`; what could make another one public is not read, and so refused.
 def public(path):
     text = code(path)
     for found in re.findall(r'\bpub use .*?;', text, re.S):
         raise Unread(f'{path}: {found} what it makes public is not read')
-    for found in re.findall(r'\btrait\b[^{;]*|\bimpl\b[^{;]*\bfor\b[^{;]*', text):
-        raise Unread(f'{path}: {" ".join(found.split())}: what a trait makes public is not read')
+    for name in re.findall(r'\bpub\s+(?:\w+\s+)*trait\s+(\w+)', text):
+        raise Unread(f'{path}: pub trait {name}: what a trait makes public is not read')
     heads = re.finditer(r'(?:\bpub(?!\s*\()|\bextern\s+"C")\s+(?:(?:const|unsafe|async|extern|"C")\s+)*fn\s+(\w+)', text)
-    return [(path, found[1], found.end()) for found in heads if is_public(path) or in_impl(text, found.start())]
+    own = [(path, found[1], found.end()) for found in heads if is_public(path) or impl_at(path, found.start())]
+    return own + [made for block in impls(path) if block.trait for made in trait_functions(path, block)]

@@ -10,8 +10,8 @@ PROOFS = {'Determined': 'by_equation', 'DeterminedBy': 'by_meaning', 'Determined
 # what the result, and what a lent buffer holds afterwards, are called: the first of these that the function does not use
 RESULT = ('r', 's', 'q')
 AFTER = ('b', 'after', 'c')
-# the module that passes on the library's names
-PRELUDE = 'Rattle.std.specs.Prelude'
+# the module that passes on the library's names; it, and the modules beside it, have those that a module of CORE has
+PRELUDE, BESIDE, CORE = 'Rattle.std.specs.Prelude', 'Rattle.std.specs.', 'Rattle.core.specs.'
 WIDTH = 160
 
 
@@ -53,12 +53,15 @@ def without(path, name):
 
 
 def imported_from(full):
-    """The module that a name is imported from, and its name there: the library's Prelude where that passes it on."""
+    """The module that a name is imported from, and its name there: the library's Prelude, or a module beside that, where it passes the name on."""
     module, name = full.rsplit('.', 1)
-    try:
-        return (PRELUDE, name) if p.origin(f'{PRELUDE}.{name}') == full else (module, name)
-    except p.Unread:
-        return module, name
+    for passing in (PRELUDE, module.replace(CORE, BESIDE)):
+        try:
+            if p.origin(f'{passing}.{name}') == full:
+                return passing, name
+        except p.Unread:
+            pass
+    return module, name
 
 
 def brought(path, full, bound):
@@ -68,7 +71,7 @@ def brought(path, full, bound):
         without(path, name)
     taken = {*p.known(path)[0], *bound}
     if taken & {name, *filter(None, name.split(p.HOLE))} and p.HOLE not in name:
-        other = module.split('.')[-1].lower()
+        other = module.removesuffix('.TheVariants').split('.')[-1].lower()
         line, spelt = f'use {module} as {other}', f'{other}.{name}'
         if other in {*taken, *p.known(path)[1]}:
             raise p.Unread(f'{path}: {full} can be imported under no name that is free')
@@ -109,10 +112,9 @@ class Word:
 def words_of(f, label):
     """The words of a promise, as the source has them."""
     text = f.promises[label]
-    bound = {name: f'@{at}' for at, (name, kind) in enumerate(f.parameters)} | {p.RESULT: '#r'}
     plain = p.tokens(text)
     found, at = [], 0
-    for word, meaning in zip(plain, p.meanings(f.path, plain, bound)):
+    for word, meaning in zip(plain, p.meanings(f.path, plain, f.bound())):
         start = text.index(word, at)
         found.append(Word(start > at, word, meaning))
         at = start + len(word)
@@ -145,11 +147,11 @@ def certified(path, f, label, result, after):
     for word in words:
         renamed(word, '#r', result, '#r')
         for at, (name, kind) in enumerate(f.parameters):
-            for spelling, meaning in p.spellings(at, kind):
+            for spelling, meaning in f.spellings(at):
                 renamed(word, spelling, after if meaning.endswith("'") else name, meaning.replace('#', '@'))
-    bound = {word.text.split('.')[0]: word.means for word in words if word.means[0] in '@#$'}
+    bound = {word.text.split('.')[0]: word.means for word in words if word.means[0] in '@#$%'}
     for word in words:
-        if word.means[0] not in '@#$.' and word.text not in p.SYNTAX and not word.text.isdigit():
+        if word.means[0] not in '@#$%.' and word.text not in p.SYNTAX and not word.text.isdigit():
             full, *fields = word.means.split(' ')
             own = word.text[:len(word.text) - len(''.join(fields))]
             word.text = spelt(path, own, full, bound) + ''.join(fields)
@@ -162,11 +164,12 @@ def joined(words):
 
 def type_of(path, f, kind, bound):
     """A type as this file spells it."""
-    return p.shown([word if word in '()' else spelt(path, word.rsplit('.', 1)[1], word, bound) for word in f.antt(kind)])
+    named = {place: name for name, place in f.taken.items()} | {word: word for word in p.SYNTAX}
+    return p.shown([named[word] if word in named else spelt(path, word.rsplit('.', 1)[1], word, bound) for word in f.antt(kind)])
 
 
 def binders(path, f, bound):
-    """The parameters with their types, those of one type together."""
+    """The types that it takes, and the parameters with their types, those of one type together."""
     groups = []
     for name, kind in f.parameters:
         spelt_type = type_of(path, f, kind, bound)
@@ -174,7 +177,7 @@ def binders(path, f, bound):
             groups[-1][0].append(name)
         else:
             groups.append(([name], spelt_type))
-    return ' '.join(f'({" ".join(names)} : {kind})' for names, kind in groups)
+    return ' '.join([f'{{{" ".join(f.taken)} : Type 0}}'] * bool(f.taken) + [f'({" ".join(names)} : {kind})' for names, kind in groups])
 
 
 def variable(path, f, words, hole, name, bound):
@@ -190,7 +193,7 @@ class Line:
     def __init__(self, path, name, f, label, meaning):
         parameters = [parameter for parameter, kind in f.parameters]
         result, after = (next(word for word in names if word not in parameters) for names in (RESULT, AFTER))
-        bound = {word: word for word in (*parameters, result, after)}
+        bound = {word: word for word in (*f.taken, *parameters, result, after)}
         words = certified(path, f, label, result, after)
         holes = p.holes(f.promised(label))
         names = [(hole.replace('#', '@') if hole != '#r' else hole, result if hole == '#r' else after) for hole in holes]
@@ -271,6 +274,11 @@ def used(path):
     return {part for word in p.tokens(re.sub(r'^use .*$', '', p.code(path), flags=re.M)) for part in (word, word.split('.')[0])}
 
 
+def imported_names(path):
+    """What the imports of a file bring: names, and modules by theirs."""
+    return [*p.imported(path)[0], *p.imported(path)[1]]
+
+
 def mended(path, name, f, label, meanings, last):
     """Writes the line of a promise that is new or has moved, where `last` is the promise before it."""
     line = Line(path, name, f, label, meanings.get(f.key))
@@ -281,7 +289,7 @@ def mend(path, promised, meanings, stale):
     """Makes the lines of Determined those of the promises: `stale` are the names whose lines are not. Says what is left to do by hand."""
     if not stale:
         return
-    before, last = used(path), None
+    before, there, last = used(path), imported_names(path), None
     for name in promised:
         try:
             yield from mended(path, name, *promised[name], meanings, last) if name in stale else ()
@@ -290,7 +298,7 @@ def mend(path, promised, meanings, stale):
         last = name if block(path, name) else last
     for name in sorted({*stale} - {*promised}):
         removed(path, name)
-    for name in [*p.imported(path)[0], *p.imported(path)[1]]:
+    for name in imported_names(path):
         words = {part for part in name.split(p.HOLE) if part} if p.HOLE in name else {name}
-        if words & before and not words & used(path):
+        if (words & before or name not in there) and not words & used(path):
             without(path, name)
