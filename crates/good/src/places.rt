@@ -29,31 +29,40 @@ fn is_desk(who: u8) -> bool
     (rules::RELAYS..rules::EVERYONE).contains(&(who as usize))
 }
 
-// From a member of v to a member of w.
-fn between(v: u16, w: u16, from: u8, to: u8) -> bool
-    ensures { result ≡ (member v from && member w to) }
-{
-    views::is_member(v, from) && views::is_member(w, to)
-}
-
-// From a desk to a member of the view asked for.
-fn asked(c: u16, from: u8, to: u8) -> bool
-    ensures { result ≡ (is_desk from && member c to) }
-{
-    is_desk(from) && views::is_member(c, to)
-}
-
 fn is_relay(who: u8) -> bool
     ensures { result ≡ ltb who 8 }
 {
     (who as usize) < rules::RELAYS
 }
 
-// From a relay to a desk.
-fn replied(from: u8, to: u8) -> bool
-    ensures { result ≡ (ltb from 8 && is_desk to) }
-{
-    is_relay(from) && is_desk(to)
+// A message's sender and receiver.
+#[derive(Clone, Copy)]
+struct Ends {
+    from: u8,
+    to: u8,
+}
+
+impl Ends {
+    // From a member of v to a member of w.
+    fn between(self, v: u16, w: u16) -> bool
+        ensures { result ≡ (member v self.from && member w self.to) }
+    {
+        views::is_member(v, self.from) && views::is_member(w, self.to)
+    }
+
+    // From a desk to a member of the view asked for.
+    fn asks(self, c: u16) -> bool
+        ensures { result ≡ (is_desk self.from && member c self.to) }
+    {
+        is_desk(self.from) && views::is_member(c, self.to)
+    }
+
+    // From a relay to a desk.
+    fn replies(self) -> bool
+        ensures { result ≡ (ltb self.from 8 && is_desk self.to) }
+    {
+        is_relay(self.from) && is_desk(self.to)
+    }
 }
 
 // u is +s, and not in c.
@@ -79,90 +88,92 @@ fn good_update(s: u8, u: u16, c: u16) -> bool
     asks_to_join(s, u, c) || asks_to_leave(s, u, c)
 }
 
-fn good_request(from: u8, to: u8, u: u16, c: u16) -> bool
-    ensures { result ≡ good_place (sent from to (request u c)) }
+fn good_request(ends: Ends, u: u16, c: u16) -> bool
+    ensures { result ≡ good_place (sent ends.from ends.to (request u c)) }
 {
-    is_relay(from) && good_update(from, u, c) && views::is_member(c, to)
+    is_relay(ends.from) && good_update(ends.from, u, c) && views::is_member(c, ends.to)
 }
 
-fn good_view(from: u8, to: u8, v: u16) -> bool
-    ensures { result ≡ good_place (sent from to (view v)) }
+fn good_view(ends: Ends, v: u16) -> bool
+    ensures { result ≡ good_place (sent ends.from ends.to (view v)) }
 {
-    is_relay(from) && is_relay(to) && v != 0
+    is_relay(ends.from) && is_relay(ends.to) && v != 0
 }
 
 // A proposal, and a convergence.
-fn good_proposal(from: u8, to: u8, v: u16, q: Sequence) -> bool
-    ensures { (result ≡ good_place (sent from to (proposal v (views_of q)))) × (result ≡ good_place (sent from to (converged v (views_of q)))) }
+fn good_proposal(ends: Ends, v: u16, q: Sequence) -> bool
+    ensures { (result ≡ good_place (sent ends.from ends.to (proposal v (views_of q))))
+        × (result ≡ good_place (sent ends.from ends.to (converged v (views_of q)))) }
 {
-    between(v, v, from, to) && views::above(v, q) && views::count(q) != 0
+    ends.between(v, v) && views::above(v, q) && views::count(q) != 0
 }
 
-fn good_install(from: u8, to: u8, o: u16, w: u16, q: Sequence) -> bool
-    ensures { result ≡ good_place (sent from to (install o w (views_of q))) }
+fn good_install(ends: Ends, o: u16, w: u16, q: Sequence) -> bool
+    ensures { result ≡ good_place (sent ends.from ends.to (install o w (views_of q))) }
 {
     parts::good_move(o, w)
         && parts::good_installed(o, w, q)
-        && (between(o, o, from, to) || between(o, w, from, to))
+        && (ends.between(o, o) || ends.between(o, w))
 }
 
-fn good_state(from: u8, to: u8, o: u16, w: u16, p: Pair, u: u16) -> bool
-    ensures { result ≡ good_place (sent from to (state o w p u)) }
+fn good_state(ends: Ends, o: u16, w: u16, p: Pair, u: u16) -> bool
+    ensures { result ≡ good_place (sent ends.from ends.to (state o w p u)) }
 {
-    parts::good_move(o, w) && between(o, w, from, to) && parts::good_pair(p)
+    parts::good_move(o, w) && ends.between(o, w) && parts::good_pair(p)
 }
 
-fn good_get(from: u8, to: u8, tries: u16, c: u16) -> bool
-    ensures { result ≡ good_place (sent from to (get tries c)) }
+fn good_get(ends: Ends, tries: u16, c: u16) -> bool
+    ensures { result ≡ good_place (sent ends.from ends.to (get tries c)) }
 {
-    asked(c, from, to)
+    ends.asks(c)
 }
 
-fn good_put(from: u8, to: u8, tries: u16, c: u16, p: Pair) -> bool
-    ensures { result ≡ good_place (sent from to (put tries c p)) }
+fn good_put(ends: Ends, tries: u16, c: u16, p: Pair) -> bool
+    ensures { result ≡ good_place (sent ends.from ends.to (put tries c p)) }
 {
-    asked(c, from, to) && parts::good_pair(p)
+    ends.asks(c) && parts::good_pair(p)
 }
 
-fn good_view_reply(from: u8, to: u8, tries: u16, v: u16) -> bool
-    ensures { result ≡ good_place (sent from to (view_reply tries v)) }
+fn good_view_reply(ends: Ends, tries: u16, v: u16) -> bool
+    ensures { result ≡ good_place (sent ends.from ends.to (view_reply tries v)) }
 {
-    replied(from, to)
+    ends.replies()
 }
 
-fn good_pair_reply(from: u8, to: u8, tries: u16, p: Pair) -> bool
-    ensures { result ≡ good_place (sent from to (pair_reply tries p)) }
+fn good_pair_reply(ends: Ends, tries: u16, p: Pair) -> bool
+    ensures { result ≡ good_place (sent ends.from ends.to (pair_reply tries p)) }
 {
-    parts::good_pair(p) && replied(from, to)
+    parts::good_pair(p) && ends.replies()
 }
 
-fn good_ack(from: u8, to: u8, tries: u16) -> bool
-    ensures { result ≡ good_place (sent from to (ack tries)) }
+fn good_ack(ends: Ends, tries: u16) -> bool
+    ensures { result ≡ good_place (sent ends.from ends.to (ack tries)) }
 {
-    replied(from, to)
+    ends.replies()
 }
 
 #[tactic(auto, unfolding(state::specs::Meaning::message_of, state::specs::Meaning::body_of, layout::specs::Image::body_in))]
 fn good_message(m: Message) -> bool
     ensures { result ≡ good_place (waiting (message_of m)) }
 {
-    let from = m.from;
-    let to = m.to;
+    let ends = Ends {
+        from: m.from,
+        to: m.to,
+    };
     let b = m.body;
     let q = b.sequence;
     let p = b.pair;
     match MessageKind::from(b.kind) {
-        MessageKind::Request => good_request(from, to, b.updates, b.first),
-        MessageKind::View => good_view(from, to, b.first),
-        MessageKind::Proposal => good_proposal(from, to, b.first, q),
-        MessageKind::Converged => good_proposal(from, to, b.first, q),
-        MessageKind::Install => good_install(from, to, b.first, b.second, q),
-        MessageKind::State => good_state(from, to, b.first, b.second, p, b.updates),
-        MessageKind::Get => good_get(from, to, b.tries, b.first),
-        MessageKind::Put => good_put(from, to, b.tries, b.first, p),
-        MessageKind::ViewReply => good_view_reply(from, to, b.tries, b.first),
-        MessageKind::PairReply => good_pair_reply(from, to, b.tries, p),
-        MessageKind::Ack => good_ack(from, to, b.tries),
+        MessageKind::Request => good_request(ends, b.updates, b.first),
+        MessageKind::View => good_view(ends, b.first),
+        MessageKind::Proposal | MessageKind::Converged => good_proposal(ends, b.first, q),
+        MessageKind::Install => good_install(ends, b.first, b.second, q),
+        MessageKind::State => good_state(ends, b.first, b.second, p, b.updates),
+        MessageKind::Get => good_get(ends, b.tries, b.first),
+        MessageKind::Put => good_put(ends, b.tries, b.first, p),
+        MessageKind::ViewReply => good_view_reply(ends, b.tries, b.first),
+        MessageKind::PairReply => good_pair_reply(ends, b.tries, p),
+        MessageKind::Ack => good_ack(ends, b.tries),
     }
 }
 
