@@ -1,20 +1,20 @@
 // What a start writes: the relays, and the desks.
-ghost use Rattle.std.specs.Prelude.{◌≡◌, [], ◌<◌};
+ghost use Rattle.std.specs.Prelude.{◌≡◌, []};
 ghost use Rattle.rules.specs.State.{start_relay, start_desk};
 ghost use Rattle.layout.specs.Image.{image};
 ghost use Rattle.state.specs.Meaning.{relay_of};
 ghost use Rattle.world.specs.Commits.{begun};
 
+use super::relay_number::RelayNumber;
 use rules::{Desk, Phase};
 use state::Head;
 
 // "its relays are entered and active, the others have view 0 and aren't"
-fn start_head(mask: u8, s: u8) -> Head
-    requires { s < 8 }
-    ensures { relay_of result [] [] ≡ start_relay mask s }
+fn start_head(mask: u8, s: RelayNumber) -> Head
+    ensures { relay_of result [] [] ≡ start_relay mask s.number }
 {
     let known = mask as u16;
-    let joined = (mask >> s) % 2 == 1;
+    let joined = (mask >> s.number) % 2 == 1;
     Head {
         alive: true,
         entered: joined,
@@ -29,8 +29,9 @@ fn start_head(mask: u8, s: u8) -> Head
 pub(crate) fn put_relays(w: &mut [u8], mask: u8)
     ensures { w.old ≡ image (begun mask 0 0) → w.new ≡ image (begun mask 8 0) }
 {
-    for s in 0..rules::RELAYS as u8 {
-        image::put_head(w, s as usize * layout::RELAY_WIDTH, start_head(mask, s));
+    for number in 0..rules::RELAYS as u8 {
+        let s = RelayNumber { number };
+        image::put_head(w, s.row(), start_head(mask, s));
     }
 }
 

@@ -27,12 +27,14 @@ ghost use Rattle.world.specs.Tracing.{waiting_rows};
 ghost use Rattle.world.specs.Commits.{delivered, relay_left, desk_left, relay_steps, desk_steps, crash_steps};
 
 use layout::MessageKind;
+use relay_number::RelayNumber;
 use rules::{Desk, Refusal, Step, StepKind};
 use stamps::Pair;
 use state::{Body, Event, Message, Part, Plan};
 
 mod begin; // what a start writes
 mod reads; // what a step looks up
+mod relay_number; // which relay it is about
 pub mod run; // a whole sheet
 mod writes; // what it writes
 
@@ -91,13 +93,13 @@ fn tells(event: Event, who: u8) -> Report
 // What the relay s answers is refused, or done; p is the delivered place, if any.
 fn relay_commits(
     w: &mut [u8],
-    s: u8,
+    s: RelayNumber,
     p: Option<u8>,
     plan: Result<Plan<Part>, Refusal>,
 ) -> Result<Report, Refusal>
-    requires { (good_bytes w.old ≡ true) × (s < 8) }
+    requires { good_bytes w.old ≡ true }
     ensures { (n : ℕ) (a : rules.Answer Relay) → plan_of plan ≡ planned no_relay a → Few a → delivered (world_at w.old) (unwrap_or p 256) ≡ true
-        → done_of result w.new ≡ relay_left w.old n (unwrap_or p 256) s a }
+        → done_of result w.new ≡ relay_left w.old n (unwrap_or p 256) s.number a }
 {
     let plan = plan?;
     if !reads::has_room(w, p, plan.sends) {
@@ -108,8 +110,8 @@ fn relay_commits(
     }
     writes::put_part(w, s, plan.next);
     writes::free(w, p);
-    writes::send_all(w, s, plan.sends);
-    Ok(tells(plan.event, s))
+    writes::send_all(w, s.number, plan.sends);
+    Ok(tells(plan.event, s.number))
 }
 
 // The same of the desk n. (Not one function for both: of the relay's answer seats are asked too, and each is written in its own way.)
@@ -149,15 +151,15 @@ fn relay_acts<F: FnOnce(u8, Part) -> Result<Plan<Part>, Refusal>>(
         → F.post ask s part plan → plan_of plan ≡ planned no_relay (relay_asked kind s (part_of part)))
         → done_of result w.new ≡ lent.left w.old (relay_steps (world_at w.old) kind s) }
 {
-    if FIRST_DESK <= s {
+    let Some(s) = RelayNumber::of(s) else {
         return Err(Refusal::BadStep);
-    }
-    if !reads::alive_at(w, s) {
+    };
+    if !reads::alive_at(w, s.number) {
         return Err(Refusal::Dead);
     }
-    let view = rows::read_u16(w, reads::row_of(s) + layout::HEAD_VIEW);
+    let view = rows::read_u16(w, s.row() + layout::HEAD_VIEW);
     let part = reads::part_at(w, s, view, 0, 0);
-    relay_commits(w, s, None, ask(s, part))
+    relay_commits(w, s, None, ask(s.number, part))
 }
 
 // "4 READ desk, 5 WRITE desk value": what the step asks of the desk n.
@@ -223,11 +225,11 @@ fn to_relay(w: &mut [u8], p: u8, m: Message) -> Result<Report, Refusal>
     requires { (good_bytes w.old ≡ true) × ((place_at (world_at w.old) p ≡ waiting (message_of m)) × (m.to < 8)) }
     ensures { done_of result w.new ≡ lent.left w.old (steps.delivers (steps.freed (world_at w.old) p) (message_of m)) }
 {
-    let to = m.to;
+    let to = RelayNumber { number: m.to };
     let body = m.body;
     let about = about_of(body);
     let part = reads::part_at(w, to, about.generator, about.old, about.new);
-    relay_commits(w, to, Some(p), relay::hears(to, part, m.from, body))
+    relay_commits(w, to, Some(p), relay::hears(m.to, part, m.from, body))
 }
 
 fn to_desk(w: &mut [u8], p: u8, m: Message) -> Result<Report, Refusal>

@@ -10,6 +10,7 @@ ghost use Rattle.state.specs.Meaning.{part_of, generator_of, transfer_of, sendin
 ghost use Rattle.locality.specs.Narrow.{Move, move, narrow, widened};
 ghost use Rattle.world.specs.Commits.{Found, row_of, free_row, TakenTo, free_rows, ends_view, ends_move, receivers_below};
 
+use super::relay_number::RelayNumber;
 use state::{Generator, Part, Sendings, Transfer};
 
 // ---- places
@@ -125,31 +126,31 @@ pub(crate) fn transfer_seat(w: &[u8], at: usize, o: u16, n: u16) -> Option<usize
 }
 
 // The generator of the relay s for v, if it is there.
-fn generator_in(w: &[u8], s: u8, v: u16) -> Option<Generator>
-    requires { (good_bytes w.now ≡ true) × (s < 8) }
-    ensures { (m : Move) → listed generator_of result ≡ (narrow (relay_at (world_at w.now) s) v m).generators }
+fn generator_in(w: &[u8], s: RelayNumber, v: u16) -> Option<Generator>
+    requires { good_bytes w.now ≡ true }
+    ensures { (m : Move) → listed generator_of result ≡ (narrow (relay_at (world_at w.now) s.number) v m).generators }
 {
-    let at = s as usize * layout::RELAY_WIDTH + layout::RELAY_GENERATORS;
+    let at = s.row() + layout::RELAY_GENERATORS;
     let row = at + generator_seat(w, at, v)? * layout::GENERATOR_WIDTH;
     (rows::read_u16(w, row) != 0).then(|| image::generator_at(w, row))
 }
 
 // Its transfer from o to n, likewise.
-fn transfer_in(w: &[u8], s: u8, o: u16, n: u16) -> Option<Transfer>
-    requires { (good_bytes w.now ≡ true) × (s < 8) }
-    ensures { (v : ℕ) → listed transfer_of result ≡ (narrow (relay_at (world_at w.now) s) v (move o n)).transfers }
+fn transfer_in(w: &[u8], s: RelayNumber, o: u16, n: u16) -> Option<Transfer>
+    requires { good_bytes w.now ≡ true }
+    ensures { (v : ℕ) → listed transfer_of result ≡ (narrow (relay_at (world_at w.now) s.number) v (move o n)).transfers }
 {
-    let at = s as usize * layout::RELAY_WIDTH + layout::RELAY_TRANSFERS;
+    let at = s.row() + layout::RELAY_TRANSFERS;
     let row = at + transfer_seat(w, at, o, n)? * layout::TRANSFER_WIDTH;
     (rows::read_u16(w, row + layout::TRANSFER_NEW) != 0).then(|| image::transfer_at(w, row))
 }
 
 // The part of the relay s that shows the generator for v and the transfer from o to n.
-pub(crate) fn part_at(w: &[u8], s: u8, v: u16, o: u16, n: u16) -> Part
-    requires { (good_bytes w.now ≡ true) × (s < 8) }
-    ensures { part_of result ≡ narrow (relay_at (world_at w.now) s) v (move o n) }
+pub(crate) fn part_at(w: &[u8], s: RelayNumber, v: u16, o: u16, n: u16) -> Part
+    requires { good_bytes w.now ≡ true }
+    ensures { part_of result ≡ narrow (relay_at (world_at w.now) s.number) v (move o n) }
 {
-    let at = s as usize * layout::RELAY_WIDTH;
+    let at = s.row();
     Part {
         head: image::head_at(w, at),
         generator: generator_in(w, s, v),
@@ -159,20 +160,20 @@ pub(crate) fn part_at(w: &[u8], s: u8, v: u16, o: u16, n: u16) -> Part
 
 // ---- the seats of what a part has become
 
-fn generator_seated(w: &[u8], s: u8, part: Part) -> bool
-    requires { (good_bytes w.now ≡ true) × (s < 8) }
-    ensures { result ≡ leb (length (widened (relay_at (world_at w.now) s) (part_of part)).generators) 8 }
+fn generator_seated(w: &[u8], s: RelayNumber, part: Part) -> bool
+    requires { good_bytes w.now ≡ true }
+    ensures { result ≡ leb (length (widened (relay_at (world_at w.now) s.number) (part_of part)).generators) 8 }
 {
-    let at = s as usize * layout::RELAY_WIDTH + layout::RELAY_GENERATORS;
+    let at = s.row() + layout::RELAY_GENERATORS;
     part.generator
         .is_none_or(|g| generator_seat(w, at, g.view).is_some())
 }
 
-fn transfer_seated(w: &[u8], s: u8, part: Part) -> bool
-    requires { (good_bytes w.now ≡ true) × (s < 8) }
-    ensures { result ≡ leb (length (widened (relay_at (world_at w.now) s) (part_of part)).transfers) 8 }
+fn transfer_seated(w: &[u8], s: RelayNumber, part: Part) -> bool
+    requires { good_bytes w.now ≡ true }
+    ensures { result ≡ leb (length (widened (relay_at (world_at w.now) s.number) (part_of part)).transfers) 8 }
 {
-    let at = s as usize * layout::RELAY_WIDTH;
+    let at = s.row();
     part.head.view != rows::read_u16(w, at + layout::HEAD_VIEW)
         || part.transfer.is_none_or(|t| transfer_seat(
             w,
@@ -183,9 +184,10 @@ fn transfer_seated(w: &[u8], s: u8, part: Part) -> bool
 }
 
 // NO ROOM: "the step needs more [..] generators or transfers than are free at its begin"
-pub(crate) fn has_seats(w: &[u8], s: u8, part: Part) -> bool
-    requires { (good_bytes w.now ≡ true) × (s < 8) }
-    ensures { result ≡ (leb (length (widened (relay_at (world_at w.now) s) (part_of part)).generators) 8 && leb (length (widened (relay_at (world_at w.now) s) (part_of part)).transfers) 8) }
+pub(crate) fn has_seats(w: &[u8], s: RelayNumber, part: Part) -> bool
+    requires { good_bytes w.now ≡ true }
+    ensures { result ≡ (leb (length (widened (relay_at (world_at w.now) s.number) (part_of part)).generators) 8
+        && leb (length (widened (relay_at (world_at w.now) s.number) (part_of part)).transfers) 8) }
 {
     generator_seated(w, s, part) && transfer_seated(w, s, part)
 }

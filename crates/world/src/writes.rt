@@ -11,6 +11,7 @@ ghost use Rattle.state.specs.Meaning.{transfer_of, part_of, body_of, sending_of,
 ghost use Rattle.locality.specs.Narrow.{widened};
 ghost use Rattle.world.specs.Commits.{TakenTo, freed_at, kept_rows, message};
 
+use super::relay_number::RelayNumber;
 use state::{Body, Message, Part, Sending, Sendings, Transfer};
 
 // ---- places
@@ -109,12 +110,13 @@ fn put_kept(w: &mut [u8], at: usize, kept: &[Transfer; rules::SEATS])
 }
 
 // Only where `has_seats` is true, so that the seat is one of the eight; `put_part` likewise.
-fn put_transfers(w: &mut [u8], s: u8, part: Part)
-    requires { (good_bytes w.old ≡ true) × (s < 8) }
-    ensures { leb (length (widened (relay_at (world_at w.old) s) (part_of part)).transfers) 8 ≡ true
-        → w.new ≡ image (with_relay (world_at w.old) s (with_transfers (relay_at (world_at w.old) s) (widened (relay_at (world_at w.old) s) (part_of part)).transfers)) }
+fn put_transfers(w: &mut [u8], s: RelayNumber, part: Part)
+    requires { good_bytes w.old ≡ true }
+    ensures { leb (length (widened (relay_at (world_at w.old) s.number) (part_of part)).transfers) 8 ≡ true
+        → w.new ≡ image (with_relay (world_at w.old) s.number
+        (with_transfers (relay_at (world_at w.old) s.number) (widened (relay_at (world_at w.old) s.number) (part_of part)).transfers)) }
 {
-    let at = s as usize * layout::RELAY_WIDTH;
+    let at = s.row();
     let transfers = at + layout::RELAY_TRANSFERS;
     let view = part.head.view;
     if view != rows::read_u16(w, at + layout::HEAD_VIEW) {
@@ -134,13 +136,13 @@ fn put_transfers(w: &mut [u8], s: u8, part: Part)
 // ---- a relay
 
 // The relay s, of whose part a rule has made this one.
-pub(crate) fn put_part(w: &mut [u8], s: u8, part: Part)
-    requires { (good_bytes w.old ≡ true) × (s < 8) }
-    ensures { leb (length (widened (relay_at (world_at w.old) s) (part_of part)).generators) 8 ≡ true
-        → leb (length (widened (relay_at (world_at w.old) s) (part_of part)).transfers) 8 ≡ true
-        → w.new ≡ image (with_relay (world_at w.old) s (widened (relay_at (world_at w.old) s) (part_of part))) }
+pub(crate) fn put_part(w: &mut [u8], s: RelayNumber, part: Part)
+    requires { good_bytes w.old ≡ true }
+    ensures { leb (length (widened (relay_at (world_at w.old) s.number) (part_of part)).generators) 8 ≡ true
+        → leb (length (widened (relay_at (world_at w.old) s.number) (part_of part)).transfers) 8 ≡ true
+        → w.new ≡ image (with_relay (world_at w.old) s.number (widened (relay_at (world_at w.old) s.number) (part_of part))) }
 {
-    let at = s as usize * layout::RELAY_WIDTH;
+    let at = s.row();
     let generators = at + layout::RELAY_GENERATORS;
     // looked up before anything is written
     let seat = part

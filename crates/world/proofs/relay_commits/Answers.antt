@@ -22,31 +22,32 @@ unfolding plan_of relay_left relay_does
 returns-in_err-plan c n a e few d =
     let p = err_from_is_err_and c.from_residual.result c.from_residual.ensures.1 in
     let x = plan_refuses no_relay a (plan_of (Err c.in_err-plan.field-0.0)) (rw c.in_err-plan.was at e) (coded_number _) in
-    rw (p.1, p.2) (refused_kept _ x.why c.args.w.now x.numbered ∙ ap (relay_left c.args.w.now n (unwrap_or c.args.p 256) c.args.s) (sym x.is))
+    rw (p.1, p.2) (refused_kept _ x.why c.args.w.now x.numbered ∙ ap (relay_left c.args.w.now n (unwrap_or c.args.p 256) c.args.s.number) (sym x.is))
 
 pub returns-then-not-has_room : goal.returns-then-not-has_room
 unfolding plan_of
 returns-then-not-has_room c n a e few d =
     refused_kept NoRoom no_room c.args.w.now refl
-    ∙ relay_crowded c.args.w.now c.requires.0 (unwrap_or c.args.p 256) c.args.s n a (plan_of (Ok c.in_ok-plan.plan)) (rw c.in_ok-plan.was at e) few d refl
-    (sym (c.has_room.ensures c.args.s) ∙ not-true _ c.if-not-has_room.true-raw)
+    ∙ relay_crowded c.args.w.now c.requires (unwrap_or c.args.p 256) c.args.s.number n a (plan_of (Ok c.in_ok-plan.plan)) (rw c.in_ok-plan.was at e) few d refl
+    (sym (c.has_room.ensures c.args.s.number) ∙ not-true _ c.if-not-has_room.true-raw)
 
 pub returns-then-not-has_seats : goal.returns-then-not-has_seats
 unfolding plan_of
 returns-then-not-has_seats c n a e few d =
     refused_kept NoRoom no_room c.args.w.now refl
-    ∙ relay_unseated c.args.w.now c.requires.0 (unwrap_or c.args.p 256) c.args.s n a (plan_of (Ok c.in_ok-plan.plan)) (rw c.in_ok-plan.was at e) few d refl
+    ∙ relay_unseated c.args.w.now c.requires (unwrap_or c.args.p 256) c.args.s.number n a (plan_of (Ok c.in_ok-plan.plan)) (rw c.in_ok-plan.was at e) few d refl
     (sym c.has_seats.ensures ∙ not-true _ c.if-not-has_seats.true-raw)
 
 pub returns : goal.returns
 unfolding plan_of
 returns c n a e few d =
     let w = world_at c.args.w.now in
-    let r = widened (relay_at w c.args.s) (part_of c.in_ok-plan.plan.next) in
+    let r = widened (relay_at w c.args.s.number) (part_of c.in_ok-plan.plan.next) in
     let fits = sym c.has_seats.ensures ∙ not-false _ c.if-not-has_seats.false-raw in
     let two = (and-eq-true_iff _ _).0 fits in
     done_accepted _ _ _ c.tells.ensures
-    ∙ relay_done c.args.w.now c.requires.0 (unwrap_or c.args.p 256) c.args.s n a (plan_of (Ok c.in_ok-plan.plan)) (rw c.in_ok-plan.was at e) few d refl
-    (sym (c.has_room.ensures c.args.s) ∙ not-false _ c.if-not-has_room.false-raw) fits _
-    (freed-sent (with_relay w c.args.s r) (shaped c.args.w.now c.requires.0).places (unwrap_or c.args.p 256) c.args.s (sendings_of c.in_ok-plan.plan.sends) _ _ _
+    ∙ relay_done c.args.w.now c.requires (unwrap_or c.args.p 256) c.args.s.number n a (plan_of (Ok c.in_ok-plan.plan)) (rw c.in_ok-plan.was at e) few d refl
+    (sym (c.has_room.ensures c.args.s.number) ∙ not-false _ c.if-not-has_room.false-raw) fits _
+    (freed-sent (with_relay w c.args.s.number r) (shaped c.args.w.now c.requires).places (unwrap_or c.args.p 256) c.args.s.number
+    (sendings_of c.in_ok-plan.plan.sends) _ _ _
     (c.put_part.ensures two.0 two.1) c.free.ensures c.send_all.ensures)

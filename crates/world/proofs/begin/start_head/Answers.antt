@@ -11,7 +11,7 @@ use Rattle.world.proofs.begin.start_head.Goals.{then-joined, else-joined}
 pub returns : goal.returns
 unfolding relay_of start_relay
 returns c =
-    let seen : c.if-joined.result ≡ (if bit c.args.mask c.args.s then c.args.mask else 0) =
+    let seen : c.if-joined.result ≡ (if bit c.args.mask c.args.s.number then c.args.mask else 0) =
     elim c.if-joined.branch [
       | then-joined w ↦ w.result-is ∙ sym (rw (eq-eqb _ _ w.if-joined.true))
       | else-joined w ↦ w.result-is ∙ sym (rw (ne_eqb _ _ w.if-joined.false))

@@ -9,11 +9,15 @@ use Rattle.world.proofs.reads.generator_in.Goals as goal
 
 pub returns-in_err-row : goal.returns-in_err-row
 returns-in_err-row c m =
-    rw c.from_residual.ensures (none_shown (generator_at_seat c.args.w.now c.requires.0 c.args.s c.requires.1 c.args.v m 8 c.in_err-row.ensures.0))
+    let s = c.args.s in
+    let seat = rw c.row-at.ensures at c.in_err-row.ensures.0 in
+    rw c.from_residual.ensures (none_shown (generator_at_seat c.args.w.now c.requires s.number s.is_relay c.args.v m 8 seat))
 
 pub returns : goal.returns
 unfolding generator_at
 returns c m =
-    shown (generator_at_seat c.args.w.now c.requires.0 c.args.s c.requires.1 c.args.v m c.in_ok-row.field-0 c.in_ok-row.ensures.0) generator_of
-    c.in_ok-row.ensures.1 c.then.result (rw (← c.read_u16.ensures) c.then.ensures.variant)
+    let s = c.args.s in
+    let seat = rw c.row-at.ensures at c.in_ok-row.ensures.0 in
+    shown (generator_at_seat c.args.w.now c.requires s.number s.is_relay c.args.v m c.in_ok-row.field-0 seat) generator_of
+    c.in_ok-row.ensures.1 c.then.result (rw (c.read_u16.ensures, c.row-at.ensures) at c.then.ensures.variant)
     (IfSome_then c.then.result c.then.ensures.some (λ x q. generator_read _ _ (search rules)))

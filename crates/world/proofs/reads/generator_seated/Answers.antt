@@ -8,5 +8,5 @@ use Rattle.world.proofs.reads.generator_seated.Goals as goal
 pub returns : goal.returns
 returns c =
     by_option c.args.part.generator c.is_none_or.ensures
-    (λ e t. t ∙ seated_none c.args.w.now c.requires.0 c.args.s c.requires.1 c.args.part e)
-    (λ g e q. search (rules, seated_found c.args.w.now c.requires.0 c.args.s c.requires.1 c.args.part g e))
+    (λ e t. t ∙ seated_none c.args.w.now c.requires c.args.s.number c.args.s.is_relay c.args.part e)
+    (λ g e q. search (rules, seated_found c.args.w.now c.requires c.args.s.number c.args.s.is_relay c.args.part g e))

@@ -8,4 +8,5 @@ pub returns : goal.returns
 unfolding part_of
 returns c =
     let m = move c.args.o c.args.n in
-    part_is c.args.w.now c.requires.0 c.args.s c.requires.1 c.args.v m _ _ _ c.head_at.ensures (c.generator_in.ensures m) (c.transfer_in.ensures c.args.v)
+    part_is c.args.w.now c.requires c.args.s.number c.args.s.is_relay c.args.v m _ _ _ (rw c.row-at.ensures at c.head_at.ensures)
+    (c.generator_in.ensures m) (c.transfer_in.ensures c.args.v)

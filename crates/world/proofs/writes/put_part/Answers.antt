@@ -14,21 +14,21 @@ use Rattle.world.proofs.writes.put_part.Goals as goal
 pub returns-in_default : goal.returns-in_default
 returns-in_default c g h =
     c.put_head.ensures
-    ∙ rw (c.put_transfers.ensures h) (head_written c.args.w.now c.requires.0 c.args.s c.requires.1 c.args.part)
-    ∙ ap (λ (r : Relay). image (with_relay (world_at c.args.w.now) c.args.s r))
-    (none_written c.args.w.now c.requires.0 c.args.s c.requires.1 c.args.part c.in_default.is)
+    ∙ rw (c.row-at.ensures, c.put_transfers.ensures h) (head_written c.args.w.now c.requires c.args.s.number c.args.s.is_relay c.args.part)
+    ∙ ap (λ (r : Relay). image (with_relay (world_at c.args.w.now) c.args.s.number r))
+    (none_written c.args.w.now c.requires c.args.s.number c.args.s.is_relay c.args.part c.in_default.is)
 
 -- it has its seat
 pub returns-in_default-seat : goal.returns-in_default-seat
 returns-in_default-seat c g h =
     let q = MatchOption-at_some _ _ c.in-Some.g c.in-Some.is c.in_default-seat.ensures in
-    let f : Found 8 (ends_view c.args.w.now (generators_begin c.args.s) c.in-Some.g.view) None = search rules in
-    absurd (contrary g (sym (seated_found c.args.w.now c.requires.0 c.args.s c.requires.1 c.args.part c.in-Some.g c.in-Some.is None f)))
+    let f : Found 8 (ends_view c.args.w.now (generators_begin c.args.s.number) c.in-Some.g.view) None = search rules in
+    absurd (contrary g (sym (seated_found c.args.w.now c.requires c.args.s.number c.args.s.is_relay c.args.part c.in-Some.g c.in-Some.is None f)))
 
 pub returns : goal.returns
 returns c g h =
     let q = MatchOption-at_some _ _ c.in-Some.g c.in-Some.is c.in-Some-seat.ensures in
-    let f : Found 8 (ends_view c.args.w.now (generators_begin c.args.s) c.in-Some.g.view) (Some c.in-Some-seat.i) = search rules in
+    let f : Found 8 (ends_view c.args.w.now (generators_begin c.args.s.number) c.in-Some.g.view) (Some c.in-Some-seat.i) = search rules in
     c.put_generator.ensures
-    ∙ rw (c.put_head.ensures, c.put_transfers.ensures h, head_written c.args.w.now c.requires.0 c.args.s c.requires.1 c.args.part)
-    (some_written c.args.w.now c.requires.0 c.args.s c.requires.1 c.args.part c.in-Some.g c.in-Some.is c.in-Some-seat.i f.0 f.1)
+    ∙ rw (c.put_head.ensures, c.put_transfers.ensures h, c.row-at.ensures, head_written c.args.w.now c.requires c.args.s.number c.args.s.is_relay c.args.part)
+    (some_written c.args.w.now c.requires c.args.s.number c.args.s.is_relay c.args.part c.in-Some.g c.in-Some.is c.in-Some-seat.i f.0 f.1)
