@@ -6,8 +6,6 @@ ghost use Rattle.std.specs.Prelude.{◌≡◌, [], ◌∷◌};
 ghost use Rattle.rules.specs.Runs.{decimal, line, start_of, end_of, bad_of};
 ghost use Rattle.record.specs.Lines.{laid, past, step_of};
 
-// (Buffer and position go side by side. A writer that holds both was tried: it proves, but each promise then needs a third clause, that it still holds the same
-// buffer, by a name of the prover's own.)
 pub fn put(out: &mut [u8], at: usize, x: u8) -> usize
     ensures position { result ≡ past at (x ∷ []) }
     ensures bytes { out.new ≡ laid out.old at (x ∷ []) }
