@@ -19,6 +19,7 @@ const COLUMNS: usize = 9;
 // What a rehearsal tells: how long the record is.
 const LENGTH: usize = 4;
 
+// (Like a row of a trace without its answer, which C gets as the number.)
 fn put_columns(told: &mut [u8], c: Columns)
     ensures { told.new ≡ placed told.old 0 (told_bytes (columns_of c)) }
 {

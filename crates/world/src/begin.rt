@@ -55,6 +55,7 @@ pub(crate) fn put_desks(w: &mut [u8], mask: u8)
     ensures { w.old ≡ image (begun mask 8 0) → w.new ≡ image (begun mask 8 4) }
 {
     let desk = start_desk(mask);
+    // A number here is a desk: which row is written.
     for n in 0..rules::DESKS {
         image::put_desk(w, layout::WORLD_DESKS + n * layout::DESK_WIDTH, desk);
     }

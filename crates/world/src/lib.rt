@@ -221,6 +221,7 @@ fn about_of(b: Body) -> About
     }
 }
 
+// (Not one function with `to_desk`: the row that is read, the rule and the commit differ; what they share is their order.)
 fn to_relay(w: &mut [u8], p: u8, m: Message) -> Result<Report, Refusal>
     requires { (good_bytes w.old ≡ true) × ((place_at (world_at w.old) p ≡ waiting (message_of m)) × (m.to < 8)) }
     ensures { done_of result w.new ≡ lent.left w.old (steps.delivers (steps.freed (world_at w.old) p) (message_of m)) }

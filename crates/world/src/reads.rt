@@ -20,7 +20,7 @@ pub(crate) fn is_free(w: &[u8], p: usize) -> bool
     requires { p < 256 }
     ensures { result ≡ free_row w.now p }
 {
-    rows::byte_at(w, layout::WORLD_PLACES + p * layout::MESSAGE_WIDTH) == 0
+    rows::byte_at(w, layout::WORLD_PLACES + p * layout::MESSAGE_WIDTH) == layout::NO_KIND
 }
 
 pub(crate) fn free_places(w: &[u8]) -> usize

@@ -76,6 +76,7 @@ pub const TRACE_LAST: usize = TRACE_DESK + layout::BYTE_WIDTH;
 
 pub const TRACE_ROW: usize = TRACE_LAST + layout::U32_WIDTH;
 
+// (Like the columns that engine tells, with the answer before them: a row of a trace has a width and places of its own.)
 fn put_row(rows: &mut [u8], at: usize, a: Answer)
     ensures { rows.new ≡ placed rows.old at (columns_bytes (columns a)) }
 {

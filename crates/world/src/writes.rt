@@ -54,6 +54,7 @@ fn send(w: &mut [u8], from: u8, x: Sending)
         → w.new ≡ image (with_places W (rules.place_all (copies from (sending_of x)) W.places)) }
 {
     let mut low = 0;
+    // A number here is a receiver: its name and its bit.
     for to in (0..rules::EVERYONE as u8).filter(|n| (x.receivers >> *n) % 2 == 1) {
         low = place(w, low, from, to, x.body);
     }
