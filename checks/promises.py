@@ -524,12 +524,16 @@ Impl = collections.namedtuple('Impl', 'start end taken trait kind')
 @functools.lru_cache(None)
 def impls(path):
     text, found = code(path), []
-    for block in re.finditer(r'\bimpl\b([^{;]*)\{', text):
-        head = re.fullmatch(r'\s*(?:<([^<>]*)>)?\s*(?:([\w:]+(?:<.*>)?)\s+for\s+)?([\w:]+(?:<.*>)?)\s*', block[1], re.S)
-        if not head and re.search(r'\bfor\b', block[1]):
-            raise Unread(f'{path}: {" ".join(block[0][:-1].split())}: what a trait makes public is not read')
-        if head:
-            found.append(Impl(block.end() - 1, inside(text, block.end() - 1, '}')[1], head[1] or '', head[2], head[3]))
+    for word in re.finditer(r'\bimpl\b', text):
+        # (The word in a type, as in `rule: impl FnOnce(..)`, begins no impl.)
+        if re.search(r"([:<&,(>+=]|\bmut|'\w+)\s*$", text[:word.start()]):
+            continue
+        begin = text.index('{', word.end())
+        told = text[word.end():begin]
+        head = re.fullmatch(r'\s*(?:<([^<>]*)>)?\s*(?:([\w:]+(?:<.*>)?)\s+for\s+)?([\w:]+(?:<.*>)?)\s*', told, re.S)
+        if not head or re.search(r'\bwhere\b', told):
+            raise Unread(f'{path}: {" ".join(text[word.start():begin].split())}: an impl of this head is not read, and what it makes public neither')
+        found.append(Impl(begin, inside(text, begin, '}')[1], head[1] or '', head[2], head[3]))
     return found
 
 
