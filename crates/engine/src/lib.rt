@@ -30,13 +30,13 @@ fn put_columns(told: &mut [u8], c: Columns)
         Field::Byte(c.desk),
         Field::U32(c.last),
     ];
-    rows::put_fields(told, 0, &fields);
+    rows::put_row(told, 0, &fields);
 }
 
 fn put_length(told: &mut [u8], n: u32)
     ensures { told.new ≡ placed told.old 0 (be32 n) }
 {
-    rows::put_fields(told, 0, &[Field::U32(n)]);
+    rows::put_row(told, 0, &[Field::U32(n)]);
 }
 
 // 0 for what is done, and else the refusal's number.

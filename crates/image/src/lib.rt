@@ -100,7 +100,7 @@ pub fn put_head(s: &mut [u8], at: usize, h: Head)
         Field::U32(h.holds.value),
         Field::Zeros(layout::HEAD_REST),
     ];
-    rows::put_fields(s, at, &row);
+    rows::put_row(s, at, &row);
 }
 
 pub fn notes_at(s: &[u8], at: usize) -> Notes
@@ -202,9 +202,9 @@ pub fn put_transfer(s: &mut [u8], at: usize, t: Transfer)
         Field::U16(t.gathered),
         Field::Zeros(layout::TRANSFER_REST),
     ];
-    rows::put_fields(s, at, &first);
+    rows::put_row(s, at, &first);
     put_sequence(s, at + layout::TRANSFER_SEQUENCE, t.sequence);
-    rows::put_fields(s, at + layout::TRANSFER_SENDERS, &last);
+    rows::put_row(s, at + layout::TRANSFER_SENDERS, &last);
 }
 
 // A phase in a desk's row. (Two functions of this module and no `From`: an impl would stand in crate rules, which knows no row.)
@@ -268,7 +268,7 @@ pub fn put_desk(s: &mut [u8], at: usize, d: Desk)
         Field::Flag(d.agreed),
         Field::Zeros(layout::DESK_REST),
     ];
-    rows::put_fields(s, at, &row);
+    rows::put_row(s, at, &row);
 }
 
 pub fn message_at(s: &[u8], at: usize) -> Message
@@ -318,7 +318,7 @@ pub fn put_message(s: &mut [u8], at: usize, m: Message)
         Field::U16(b.updates),
         Field::Zeros(layout::MESSAGE_REST),
     ];
-    rows::put_fields(s, at, &first);
+    rows::put_row(s, at, &first);
     put_sequence(s, at + layout::MESSAGE_SEQUENCE, b.sequence);
-    rows::put_fields(s, at + layout::MESSAGE_PAIR, &last);
+    rows::put_row(s, at + layout::MESSAGE_PAIR, &last);
 }

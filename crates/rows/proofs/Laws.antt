@@ -12,7 +12,7 @@ use native.Mathlib.Omega.{arith}
 use borrow.Rule.Slice.PartMut.{put_mid}
 use lib.Dec.{leb}
 use lib.ListN.{get_or-append, length, get_or, take, drop, set, length-append, length-take, length-drop, take-append-drop, length-set}
-use lib.Seq.{take_at, drop_at, drop-append-add, take-append-add, drop-append-le, take-append-le, drop-drop, sets-eq, set_out, get_or_at, ext_get_or, get_or-set_same, get_or-set_other}
+use lib.Seq.{length-take-le, take_at, drop_at, drop-append-add, take-append-add, drop-append-le, take-append-le, take-take, drop-drop, sets-eq, set_out, get_or_at, ext_get_or, get_or-set_same, get_or-set_other}
 use borrow.Author.Tests.{le-leb, lt-leb, leb-true, leb-false, not-false}
 use Rattle.std.proofs.lemmas.List.Edits.{paste_all}
 use Rattle.std.proofs.lemmas.Slice.{put_mid-paste}
@@ -35,6 +35,16 @@ splice_more l a b o h =
     rw (← append_assoc (take o l) a (drop (o + length a) l))
     (splice_at (take o l ++ a) (drop (o + length a) l) b (o + length a) (simp (length-append, length-take) (omega arith))
     ∙ simp (append_assoc, drop-drop, length-append, add_assoc))
+
+-- a piece, and then one right before it
+splice-before : (l a b : List ℕ) (o : ℕ) → o + length a ≤ length l → splice (splice l (o + length a) b) o a ≡ splice l o (a ++ b)
+unfolding splice
+splice-before l a b o h =
+    let p = take (o + length a) l in
+    let q = b ++ drop (o + length a + length b) l in
+    let long : length p ≡ o + length a = length-take-le (o + length a) l h in
+    let front : take o (p ++ q) ≡ take o l = take-append-le o p q (omega arith) ∙ take-take o (o + length a) l (omega arith) in
+    rw (front, drop_at p q (o + length a) long) (simp (append_assoc, length-append, add_assoc))
 
 -- in the left part, in the right part
 pub splice-left : (b c v : List ℕ) (o : ℕ) → o + length v ≤ length b → splice (b ++ c) o v ≡ splice b o v ++ c
@@ -79,13 +89,16 @@ placed_nil l o = by_room (λ t. t ≡ l) l [] o (λ h. splice_nil l o) (λ h. re
 placed_twice : (l a b : List ℕ) (o p : ℕ) → o + length a ≤ length l → p + length b ≤ length l → placed (placed l o a) p b ≡ splice (splice l o a) p b
 placed_twice l a b o p h k = rw (placed_fits l a o h) (placed_fits (splice l o a) b p (rw (splice-length l a o h) k))
 
--- they are one where they stand side by side
+-- they are one where they stand side by side, whichever is written first
 module _ (l a b : List ℕ) (o : ℕ) (h : o + (length a + length b) ≤ length l) where
   whole : splice l o (a ++ b) ≡ placed l o (a ++ b)
   whole = sym (placed_fits l (a ++ b) o (rw length-append h))
 
   pub placed_more : placed (placed l o a) (o + length a) b ≡ placed l o (a ++ b)
   placed_more = placed_twice l a b o (o + length a) (omega arith) (omega arith) ∙ splice_more l a b o (omega arith) ∙ whole
+
+  pub placed-before : placed (placed l (o + length a) b) o a ≡ placed l o (a ++ b)
+  placed-before = placed_twice l b a (o + length a) o (omega arith) (omega arith) ∙ splice-before l a b o (omega arith) ∙ whole
 
 -- what the code's test of the room says, where `!has_room(..)` is false
 pub room : {r : Bool} {m n : ℕ} → r ≡ leb m n → not r ≡ false → m ≤ n

@@ -3,14 +3,15 @@
 use mathlib.Core.Path.{◌≡◌, refl, ap}
 use mathlib.Core.List.{List, [], ◌∷◌, ◌++◌}
 use Prim.Native.Nat.{ℕ, zero, suc, ◌+◌, ◌*◌, ◌^◌, ◌/◌, ◌%◌, ◌≤◌, ◌<◌}
-use native.Mathlib.Nat.{pow-zero, pow-suc}
+use native.Mathlib.Numerals.{add-one}
+use native.Mathlib.Nat.{add-zero, pow-zero, pow-suc}
 use native.Mathlib.Omega.{arith}
 use mir.Syntax.{w8, w16, w32}
 use mir.Val.{Fits}
-use lib.Seq.{get_or-drop}
-use lib.ListN.{length, get_or, drop, length-append, get_or-eq_default}
+use lib.ListN.{length, get_or, drop, length-append, drop_of_length-le, get_or-eq_default}
+use lib.Seq.{drop-cons, get_or-drop, drop-drop}
 use Rattle.std.specs.Int.{to_be_bytes}
-use Rattle.rows.specs.Bytes.{bytes_of, number_at, be16, be32, u16_at, u32_at, run, zeros}
+use Rattle.rows.specs.Bytes.{bytes_of, fields_of, sum, number_at, be16, be32, u16_at, u32_at, run, zeros}
 use Rattle.rows.proofs.Laws.{Holds, holds_self, holds-left, holds_right, holds-byte}
 use Rattle.rows.proofs.Held.{holds_nil, holds_one, holds-append}
 
@@ -60,11 +61,42 @@ unfolding bytes_of zeros run
 zeros-number zero = refl
 zeros-number (suc n) = ap (λ (l : List ℕ). l ++ (0 ∷ [])) (zeros-number n)
 
--- ---- a byte
+-- ---- a byte; fields: how long they are, where they end, and those from the i-th on
 
 pub byte-number : {x : ℕ} → Fits w8 x → bytes_of 1 x ≡ x ∷ []
 unfolding bytes_of
 byte-number {x} small = let e : x % 256 ≡ x = omega arith in rw e
+
+pub fields-length : (ws xs : List ℕ) → length (fields_of ws xs) ≡ sum ws
+unfolding fields_of
+fields-length [] xs = refl
+fields-length (w ∷ ws) xs = simp length-append (omega (arith, length-bytes_of w (get_or xs 0 0), fields-length ws (drop 1 xs)))
+
+-- the fields of ws before the i-th, laid from o on, end at p
+pub record Ends (ws : List ℕ) (o p i : ℕ) : Type 0 where
+  pub is : p + sum (drop i ws) ≡ o + sum ws
+
+pub ends_none : {ws : List ℕ} {o : ℕ} → Ends ws o o 0
+ends_none = record { is = refl }
+
+module _ {ws : List ℕ} {o p i : ℕ} (e : Ends ws o p i) where
+  module _ {w : ℕ} (h : i < length ws) (q : w ≡ get_or ws i 0) where
+    next : sum (drop i ws) ≡ w + sum (drop (i + 1) ws)
+    next = rw (add-one, drop-cons ws i 0 h, q)
+
+    pub ends_more : Ends ws o (p + w) (i + 1)
+    ends_more = record { is = omega (arith, next, e.is) }
+
+    pub ends_inside : p + w ≤ o + sum ws
+    ends_inside = omega (arith, next, e.is)
+
+  pub ends_all : length ws ≤ i → p ≡ o + sum ws
+  ends_all h = omega (arith, ap sum (drop_of_length-le ws h), e.is)
+
+pub fields-next : (ws xs : List ℕ) (i : ℕ) → i < length ws
+    → fields_of (drop i ws) (drop i xs) ≡ bytes_of (get_or ws i 0) (get_or xs i 0) ++ fields_of (drop (i + 1) ws) (drop (i + 1) xs)
+unfolding fields_of
+fields-next ws xs i h = rw (drop-cons ws i 0 h, fields_of, get_or-drop i xs 0 0, drop-drop 1 i xs, add-zero i, add-one i)
 
 -- ---- from bytes
 

@@ -17,6 +17,11 @@ unfoldable pub bytes_of : ℕ → ℕ → List ℕ
 bytes_of zero x = []
 bytes_of (suc n) x = bytes_of n (x / 256) ++ (x % 256 ∷ [])
 
+-- numbers one after another, each in as many bytes as its width says; a number that xs lacks is 0
+unfoldable pub fields_of : List ℕ → List ℕ → List ℕ
+fields_of [] xs = []
+fields_of (w ∷ ws) xs = bytes_of w (get_or xs 0 0) ++ fields_of ws (drop 1 xs)
+
 -- the number in the n bytes of l from o on, "high byte first"
 unfoldable pub number_at : ℕ → List ℕ → ℕ → ℕ
 number_at zero l o = 0
@@ -70,6 +75,6 @@ field_bytes (U32 x) = be32 x
 field_bytes (Zeros n) = zeros n
 
 -- a row: fields one after another
-unfoldable pub fields_of : List Field → List ℕ
-fields_of [] = []
-fields_of (f ∷ fs) = field_bytes f ++ fields_of fs
+unfoldable pub fields_bytes : List Field → List ℕ
+fields_bytes [] = []
+fields_bytes (f ∷ fs) = field_bytes f ++ fields_bytes fs

@@ -4,7 +4,7 @@
 
 ghost use Rattle.std.specs.Prelude.{◌≡◌, [], ◌∷◌, ◌+◌, min, leb, length, get_or, drop, ◌==◌};
 ghost use Rattle.std.specs.List.{list_all};
-ghost use Rattle.rows.specs.Bytes.{placed, be16, field_bytes, fields_of, u16_at, u32_at, zeros};
+ghost use Rattle.rows.specs.Bytes.{placed, bytes_of, be16, fields_of, sum, field_bytes, fields_bytes, u16_at, u32_at, zeros};
 ghost use Rattle.rows.specs.Tests.{all_zero};
 
 // Room for n bytes at `at`; the sum itself could pass the largest usize.
@@ -91,8 +91,8 @@ fn put_field(s: &mut [u8], at: usize, field: Field)
 }
 
 // Room for all of them at `at`.
-fn fields_fit(len: usize, at: usize, fields: &[Field]) -> bool
-    ensures { result ≡ leb (at + length (fields_of fields.now)) len }
+fn row_fits(len: usize, at: usize, fields: &[Field]) -> bool
+    ensures { result ≡ leb (at + length (fields_bytes fields.now)) len }
 {
     let mut end = at;
     for field in fields {
@@ -106,16 +106,61 @@ fn fields_fit(len: usize, at: usize, fields: &[Field]) -> bool
 }
 
 // A row: fields one after another.
-pub fn put_fields(s: &mut [u8], at: usize, fields: &[Field])
-    ensures { s.new ≡ placed s.old at (fields_of fields.now) }
+pub fn put_row(s: &mut [u8], at: usize, fields: &[Field])
+    ensures { s.new ≡ placed s.old at (fields_bytes fields.now) }
 {
-    if !fields_fit(s.len(), at, fields) {
+    if !row_fits(s.len(), at, fields) {
         return;
     }
     let mut p = at;
     for field in fields {
         put_field(s, p, *field);
         p += field.width();
+    }
+}
+
+// From the last byte to the first: what is left of the number is then one division away.
+fn put_number(s: &mut [u8], at: usize, n: usize, x: u32)
+    ensures { s.new ≡ placed s.old at (bytes_of n x) }
+{
+    if !has_room(s.len(), at, n) {
+        return;
+    }
+    let mut rest = x;
+    for i in (0..n).rev() {
+        s[at + i] = (rest % 256) as u8;
+        rest /= 256;
+    }
+}
+
+// Room for all of them at `at`; the sum of the widths itself could pass the largest usize.
+fn widths_fit(len: usize, at: usize, widths: &[u8]) -> bool
+    ensures { result ≡ leb (at + sum widths.now) len }
+{
+    let mut end = at;
+    for width in widths {
+        let w = *width as usize;
+        if !has_room(len, end, w) {
+            return false;
+        }
+        end += w;
+    }
+    end <= len
+}
+
+// A row: numbers one after another, each in its width. Those that are lacking are zero, so that a last width without a number is unused room.
+pub fn put_fields(s: &mut [u8], at: usize, widths: &[u8], xs: &[u32])
+    ensures { s.new ≡ placed s.old at (fields_of widths.now xs.now) }
+{
+    if !widths_fit(s.len(), at, widths) {
+        return;
+    }
+    let mut p = at;
+    for (i, width) in widths.iter().enumerate() {
+        let w = *width as usize;
+        let x = xs.get(i).copied().unwrap_or(0);
+        put_number(s, p, w, x);
+        p += w;
     }
 }
 

@@ -8,7 +8,7 @@ ghost use Rattle.rules.specs.Sheets.{step_bytes, steps_bytes, step_width, sheet_
 ghost use Rattle.sheet.specs.Reading.{check_of, front_of, step_at, after_of};
 ghost use Rattle.sheet.specs.Writing.{listed, unequal, ruled, ruled_size, buffer_of, number_of, size_of};
 
-use rows::{Field, byte_at, has_room, is_zero, put_fields, read_u16, read_u32};
+use rows::{Field, byte_at, has_room, is_zero, put_row, read_u16, read_u32};
 use rules::{Refusal, Step};
 
 pub mod reader; // a sheet's bytes and a position: the iterator of its steps
@@ -126,7 +126,7 @@ fn put_head(buf: &mut [u8], mask: u8)
         Field::U16(VERSION),
         Field::Byte(mask),
     ];
-    put_fields(buf, 0, &fields);
+    put_row(buf, 0, &fields);
 }
 
 // "8 bytes a step: kind, id, two zero bytes, value"
@@ -139,7 +139,7 @@ fn put_step(buf: &mut [u8], at: usize, step: Step)
         Field::Zeros(ZEROS as u8),
         Field::U32(step.value),
     ];
-    put_fields(buf, at, &fields);
+    put_row(buf, at, &fields);
 }
 
 fn put_steps(buf: &mut [u8], kinds: &[u8], ids: &[u8], values: &[u32])

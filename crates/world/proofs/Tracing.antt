@@ -11,7 +11,7 @@ use mir.Val.{Fits}
 use lib.Dec.{ltb}
 use lib.ListN.{length, get_or, take, drop, length-append}
 use borrow.Author.Tests.{eq-eqb, ne_eqb, lt-leb, lt-ltb, le-ltb}
-use Rattle.rows.specs.Bytes.{splice, placed, bytes_of, field_bytes, fields_of, cat}
+use Rattle.rows.specs.Bytes.{splice, placed, bytes_of, field_bytes, fields_bytes, cat}
 use Rattle.rows.proofs.Laws.{placed_fits, placed_nil, Holds, holds-left, holds_right, holds-byte, Put, put_first, put_then}
 use Rattle.rows.specs.declared.Field.TheVariants.{Byte, U16, U32}
 use Rattle.rows.proofs.Numbers.{byte-number, holds_u16, holds_u32}
@@ -80,8 +80,8 @@ byte_at l o x small h = let e : x % 256 ≡ x = omega arith in holds-byte l o (x
 
 -- a row of numbers that fit, as the code lays it
 pub row_fields : (a e w c d x : ℕ) → Fits w8 a → Fits w8 e → Fits w8 w → Fits w8 d
-    → fields_of (Byte a ∷ Byte e ∷ Byte w ∷ U16 c ∷ Byte d ∷ U32 x ∷ []) ≡ columns_bytes (a ∷ e ∷ w ∷ c ∷ d ∷ x ∷ [])
-unfolding fields_of field_bytes cat
+    → fields_bytes (Byte a ∷ Byte e ∷ Byte w ∷ U16 c ∷ Byte d ∷ U32 x ∷ []) ≡ columns_bytes (a ∷ e ∷ w ∷ c ∷ d ∷ x ∷ [])
+unfolding fields_bytes field_bytes cat
 row_fields a e w c d x fa fe fw fd = rw (byte-number fa, byte-number fe, byte-number fw, byte-number fd)
 
 -- each column is in the range of its width

@@ -89,7 +89,7 @@ fn put_row(rows: &mut [u8], at: usize, a: Answer)
         Field::Byte(c.desk),
         Field::U32(c.last),
     ];
-    rows::put_fields(rows, at, &fields);
+    rows::put_row(rows, at, &fields);
 }
 
 // ---- steps

@@ -5,7 +5,7 @@ use Prim.Native.Nat.{◌+◌, ◌≤◌}
 use native.Mathlib.Omega.{arith}
 use lib.ListN.{length}
 use borrow.Author.Tests.{leb-true, leb-false}
-use Rattle.rows.specs.Bytes.{placed, field_bytes, fields_of, cat}
+use Rattle.rows.specs.Bytes.{placed, field_bytes, fields_bytes, cat}
 use Rattle.rows.specs.declared.Field.TheVariants.{Byte, U16, U32, Zeros}
 use Rattle.rows.proofs.Laws.{placed_not}
 use Rattle.layout.specs.Layout.{message_width, message_rest}
@@ -18,11 +18,11 @@ use Rattle.image.proofs.Fields.{around}
 use Rattle.image.proofs.put_message.Goals as goal
 
 row_is : (m : Message)
-    → (fields_of (Byte m.body.kind ∷ Byte m.from ∷ Byte m.to ∷ U16 m.body.first ∷ U16 m.body.second ∷ U16 m.body.tries ∷ [])
+    → (fields_bytes (Byte m.body.kind ∷ Byte m.from ∷ Byte m.to ∷ U16 m.body.first ∷ U16 m.body.second ∷ U16 m.body.tries ∷ [])
     ++ sequence_bytes (views_of m.body.sequence))
-    ++ fields_of (U16 m.body.pair.stamp.count ∷ Byte m.body.pair.stamp.desk ∷ U32 m.body.pair.value ∷ U16 m.body.updates ∷ Zeros message_rest ∷ [])
+    ++ fields_bytes (U16 m.body.pair.stamp.count ∷ Byte m.body.pair.stamp.desk ∷ U32 m.body.pair.value ∷ U16 m.body.updates ∷ Zeros message_rest ∷ [])
     ≡ row_bytes (message_row m)
-unfolding row_bytes message_row pair_bytes cat fields_of field_bytes
+unfolding row_bytes message_row pair_bytes cat fields_bytes field_bytes
 row_is m = simp (append_assoc, append-nil)
 
 pub returns-then-not-has_room : goal.returns-then-not-has_room
@@ -42,5 +42,5 @@ overflow_add-at-2 c =
 
 pub returns : goal.returns
 returns c =
-    around _ _ _ _ _ c.put_fields.ensures c.put_sequence.ensures c.put_fields-2.ensures (leb-true _ _ (sym c.has_room.ensures ∙ c.if-not-has_room.false))
+    around _ _ _ _ _ c.put_row.ensures c.put_sequence.ensures c.put_row-2.ensures (leb-true _ _ (sym c.has_room.ensures ∙ c.if-not-has_room.false))
     ∙ ap (placed _ _) (row_is c.args.m)

@@ -5,7 +5,7 @@ use Prim.Native.Nat.{◌+◌, ◌≤◌}
 use native.Mathlib.Omega.{arith}
 use lib.ListN.{length}
 use borrow.Author.Tests.{leb-true, leb-false}
-use Rattle.rows.specs.Bytes.{placed, field_bytes, fields_of, cat}
+use Rattle.rows.specs.Bytes.{placed, field_bytes, fields_bytes, cat}
 use Rattle.rows.specs.declared.Field.TheVariants.{Byte, U16, U32, Zeros}
 use Rattle.rows.proofs.Laws.{placed_not}
 use Rattle.layout.specs.Layout.{transfer_width, transfer_rest}
@@ -18,10 +18,10 @@ use Rattle.image.proofs.Fields.{around}
 use Rattle.image.proofs.put_transfer.Goals as goal
 
 row_is : (t : Transfer)
-    → (fields_of (U16 t.old ∷ U16 t.new ∷ []) ++ sequence_bytes (views_of t.sequence))
-    ++ fields_of (Byte t.senders ∷ U16 t.best.stamp.count ∷ Byte t.best.stamp.desk ∷ U32 t.best.value ∷ U16 t.gathered ∷ Zeros transfer_rest ∷ [])
+    → (fields_bytes (U16 t.old ∷ U16 t.new ∷ []) ++ sequence_bytes (views_of t.sequence))
+    ++ fields_bytes (Byte t.senders ∷ U16 t.best.stamp.count ∷ Byte t.best.stamp.desk ∷ U32 t.best.value ∷ U16 t.gathered ∷ Zeros transfer_rest ∷ [])
     ≡ transfer_bytes (transfer_of t)
-unfolding transfer_bytes transfer_of pair_bytes cat fields_of field_bytes
+unfolding transfer_bytes transfer_of pair_bytes cat fields_bytes field_bytes
 row_is t = simp (append_assoc, append-nil)
 
 pub returns-then-not-has_room : goal.returns-then-not-has_room
@@ -41,5 +41,5 @@ overflow_add-at-2 c =
 
 pub returns : goal.returns
 returns c =
-    around _ _ _ _ _ c.put_fields.ensures c.put_sequence.ensures c.put_fields-2.ensures (leb-true _ _ (sym c.has_room.ensures ∙ c.if-not-has_room.false))
+    around _ _ _ _ _ c.put_row.ensures c.put_sequence.ensures c.put_row-2.ensures (leb-true _ _ (sym c.has_room.ensures ∙ c.if-not-has_room.false))
     ∙ ap (placed _ _) (row_is c.args.t)

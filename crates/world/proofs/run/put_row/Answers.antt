@@ -14,4 +14,4 @@ unfolding columns columns_of
 returns c =
     let put = placed c.args.rows.now c.args.at in
     let row = row_fields _ _ _ _ _ _ (search rules) (search rules) (search rules) (search rules) in
-    c.put_fields.ensures ∙ ap put row ∙ ap (λ (x : List ℕ). put (columns_bytes (c.args.a.number ∷ x))) c.columns_of-c.ensures
+    c.put_row.ensures ∙ ap put row ∙ ap (λ (x : List ℕ). put (columns_bytes (c.args.a.number ∷ x))) c.columns_of-c.ensures

@@ -1,6 +1,6 @@
--- `rows::fields_fit` meets its contract. Assumes nothing.
+-- `rows::row_fits` meets its contract. Assumes nothing.
 use Rattle.rows.proofs.Row.{Ends}
-use Rattle.rows.proofs.fields_fit.Given as goal
+use Rattle.rows.proofs.row_fits.Given as goal
 
 abbrev pub invariant-loop-field : goal.invariant-loop-field
 invariant-loop-field l = Ends l.fields l.at l.end l.field-index
