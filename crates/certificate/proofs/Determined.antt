@@ -207,8 +207,11 @@ rows_put_u16 s at x = by_equation (placed s at (be16 x))
 pub rows_clear : (s : List ℕ) (at n : ℕ) → Determined (λ b. b ≡ placed s at (zeros n))
 rows_clear s at n = by_equation (placed s at (zeros n))
 
-pub rows_put_fields : (s : List ℕ) (at : ℕ) (fields : List Field) → Determined (λ b. b ≡ placed s at (rows.fields_of fields))
-rows_put_fields s at fields = by_equation (placed s at (rows.fields_of fields))
+pub rows_put_row : (s : List ℕ) (at : ℕ) (fields : List Field) → Determined (λ b. b ≡ placed s at (rows.fields_bytes fields))
+rows_put_row s at fields = by_equation (placed s at (rows.fields_bytes fields))
+
+pub rows_put_fields : (s : List ℕ) (at : ℕ) (widths xs : List ℕ) → Determined (λ b. b ≡ placed s at (rows.fields_of widths xs))
+rows_put_fields s at widths xs = by_equation (placed s at (rows.fields_of widths xs))
 
 pub rows_read_u16 : (s : List ℕ) (at : ℕ) → Determined (λ r. r ≡ u16_at s at)
 rows_read_u16 s at = by_equation (u16_at s at)

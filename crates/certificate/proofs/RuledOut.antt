@@ -20,7 +20,7 @@ use Rattle.stamps.specs.Stamp.{sign_of, compared_of, greater_of, greatest_of, fr
 use Rattle.stamps.specs.Stamp as stamps
 use Rattle.stamps.specs.declared.Stamp.{Stamp}
 use Rattle.stamps.specs.declared.Pair.{Pair}
-use Rattle.rows.specs.Bytes.{splice, placed, bytes_of, field_bytes, fields_of, number_at, be16, u16_at, u32_at, run, zeros}
+use Rattle.rows.specs.Bytes.{splice, placed, bytes_of, fields_of, field_bytes, fields_bytes, number_at, be16, u16_at, u32_at, run, zeros}
 use Rattle.rows.specs.Tests.{all, all_zero}
 use Rattle.rows.specs.declared.Field.{Field}
 use Rattle.rows.specs.declared.Field.TheVariants.{Byte}
@@ -35,7 +35,7 @@ use Rattle.rules.specs.declared.Desk.{Desk}
 use Rattle.rules.specs.declared.Phase.{Phase}
 use Rattle.rules.specs.declared.Phase.TheVariants.{Idle, Read1}
 use Rattle.certificate.proofs.Differ.{differ, itself, truth, entry}
-use Rattle.certificate.proofs.Typed.{in_bytes, in_u16, in_u8, in_usize, slice, in_Desk, in_Field, in_Pair, in_Sequence, in_Stamp}
+use Rattle.certificate.proofs.Typed.{in_bytes, in_u16, in_u32s, in_u8, in_usize, slice, in_Desk, in_Field, in_Pair, in_Sequence, in_Stamp}
 
 -- ---- views
 
@@ -363,15 +363,25 @@ pub rows_clear_to_the_end : ¬ ((s : List ℕ) (at n : ℕ) → T (in_bytes s) �
 unfolding placed splice run zeros
 rows_clear_to_the_end p = differ (entry 1) (p (7 ∷ 7 ∷ []) 0 1 tt tt tt) tt
 
-pub rows_put_fields_all_but_the_first : ¬ ((s : List ℕ) (at : ℕ) (fields : List Field) → T (in_bytes s) → T (in_usize at) → T (slice in_Field fields)
-    → placed s at (fields_of (drop 1 fields)) ≡ placed s at (fields_of fields))
-unfolding placed splice field_bytes fields_of
-rows_put_fields_all_but_the_first p = differ (entry 0) (p (0 ∷ []) 0 (Byte 7 ∷ []) tt tt tt) tt
+pub rows_put_row_all_but_the_first : ¬ ((s : List ℕ) (at : ℕ) (fields : List Field) → T (in_bytes s) → T (in_usize at) → T (slice in_Field fields)
+    → placed s at (fields_bytes (drop 1 fields)) ≡ placed s at (fields_bytes fields))
+unfolding placed splice field_bytes fields_bytes
+rows_put_row_all_but_the_first p = differ (entry 0) (p (0 ∷ []) 0 (Byte 7 ∷ []) tt tt tt) tt
 
-pub rows_put_fields_the_first_alone : ¬ ((s : List ℕ) (at : ℕ) (fields : List Field) → T (in_bytes s) → T (in_usize at) → T (slice in_Field fields)
-    → placed s at (fields_of (take 1 fields)) ≡ placed s at (fields_of fields))
-unfolding placed splice field_bytes fields_of
-rows_put_fields_the_first_alone p = differ (entry 1) (p (0 ∷ 0 ∷ []) 0 (Byte 7 ∷ Byte 8 ∷ []) tt tt tt) tt
+pub rows_put_row_the_first_alone : ¬ ((s : List ℕ) (at : ℕ) (fields : List Field) → T (in_bytes s) → T (in_usize at) → T (slice in_Field fields)
+    → placed s at (fields_bytes (take 1 fields)) ≡ placed s at (fields_bytes fields))
+unfolding placed splice field_bytes fields_bytes
+rows_put_row_the_first_alone p = differ (entry 1) (p (0 ∷ 0 ∷ []) 0 (Byte 7 ∷ Byte 8 ∷ []) tt tt tt) tt
+
+pub rows_put_fields_the_next_number : ¬ ((s : List ℕ) (at : ℕ) (widths xs : List ℕ) → T (in_bytes s) → T (in_usize at) → T (in_bytes widths) → T (in_u32s xs)
+    → placed s at (fields_of widths (drop 1 xs)) ≡ placed s at (fields_of widths xs))
+unfolding placed splice bytes_of fields_of
+rows_put_fields_the_next_number p = differ (entry 0) (p (0 ∷ []) 0 (1 ∷ []) (7 ∷ []) tt tt tt tt) tt
+
+pub rows_put_fields_the_first_alone : ¬ ((s : List ℕ) (at : ℕ) (widths xs : List ℕ) → T (in_bytes s) → T (in_usize at) → T (in_bytes widths) → T (in_u32s xs)
+    → placed s at (fields_of (take 1 widths) xs) ≡ placed s at (fields_of widths xs))
+unfolding placed splice bytes_of fields_of
+rows_put_fields_the_first_alone p = differ (entry 1) (p (0 ∷ 0 ∷ []) 0 (1 ∷ 1 ∷ []) (7 ∷ 8 ∷ []) tt tt tt tt) tt
 
 pub rows_read_u16_low_byte_first : ¬ ((s : List ℕ) (at : ℕ) → T (in_bytes s) → T (in_usize at) → get_or s (at + 1) 0 * 256 + get_or s at 0 ≡ u16_at s at)
 unfolding number_at
