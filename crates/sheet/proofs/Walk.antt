@@ -119,6 +119,30 @@ module _ (b : List ℕ) (at : ℕ) where
   pub taken_by : (r : Option Step) (past : ℕ) → r ≡ step_at b at → past ≡ after_of b at → option_map {U = Step × ℕ} (λ k. (k, past)) r ≡ taken_at b at
   taken_by r past e f = rw (e, f) taken_both
 
+  -- and the other way round: what is taken there tells the step at the position, and the position past it; at the end the position stays
+  module _ (k : Step) (past : ℕ) where
+    pub taken_some : taken_at b at ≡ Some (k, past) → (Some k ≡ step_at b at) × (past ≡ after_of b at)
+    unfolding taken_at step_at after_of
+    taken_some = go (leb (at + w) (length b))
+      where
+        go : (x : Bool) → let s = step_in (form_in b) (drop at b) in
+            ◌≡◌ {A = Option (Step × ℕ)} (if x then Some (s, at + w) else None) (Some (k, past))
+            → (Some k ≡ (if x then Some s else None)) × (past ≡ (if x then at + w else at))
+        go true f =
+            let both : ◌≡◌ {A = Step × ℕ} (k, past) (step_in (form_in b) (drop at b), at + w) = cc in
+            (ap (λ (p : Step × ℕ). Some p.0) both, ap (λ (p : Step × ℕ). p.1) both)
+        go false f = let z : ◌≡◌ {A = ℕ} 0 1 = cc in absurd (omega arith)
+
+  pub taken_none : taken_at b at ≡ None → (None ≡ step_at b at) × (at ≡ after_of b at)
+  unfolding taken_at step_at after_of
+  taken_none = go (leb (at + w) (length b))
+    where
+      go : (x : Bool) → let s = step_in (form_in b) (drop at b) in
+          ◌≡◌ {A = Option (Step × ℕ)} (if x then Some (s, at + w) else None) None
+          → (◌≡◌ {A = Option Step} None (if x then Some s else None)) × (at ≡ (if x then at + w else at))
+      go true f = let z : ◌≡◌ {A = ℕ} 0 1 = cc in absurd (omega arith)
+      go false f = (refl, refl)
+
   -- the first of those left, and the others; or the end, where the position stays
   abbrev First : Option Step → ℕ → Type 0
   First r past = MatchOption r ((steps_from b at ≡ []) × (steps_from b past ≡ [])) (λ k. steps_from b at ≡ k ∷ steps_from b past)

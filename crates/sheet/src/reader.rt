@@ -1,5 +1,5 @@
 // "It is read from the front one step at a time": a reader holds the sheet's bytes and a position, and is the iterator of the steps from there on.
-// `step_at` and `after` do the work on a plain slice and a number; `next` is thin.
+// `step_at`, `after` and `read_at` do the work on a plain slice and a number; `next` is thin.
 ghost use Rattle.std.specs.Prelude.{◌≡◌};
 ghost use Rattle.std.specs.Iterator.{YieldsFirst, item_count};
 ghost use Rattle.sheet.specs.Reading.{front_of, step_at, after_of, taken_at, steps_left};
@@ -32,17 +32,16 @@ impl Iterator for Reader<'_> {
     ghost remaining = { item_count steps_left };
 
     fn next(&mut self) -> Option<Step> {
-        let step = step_at(self.sheet, self.at);
-        self.at = after(self.sheet, self.at);
-        step
+        let (step, past) = read_at(self.sheet, self.at)?;
+        self.at = past;
+        Some(step)
     }
 }
 
-// One step for a loop that keeps the position: the step that is read there, and the position past it.
+// One step: the step that is read at a position, if one is left there, and the position past it. Every loop over a sheet's steps goes through it, by `next`.
 pub fn read_at(sheet: &[u8], at: usize) -> Option<(Step, usize)>
     ensures { result ≡ taken_at sheet.now at }
 {
-    let mut reader = Reader { sheet, at };
-    let step = reader.next()?;
-    Some((step, reader.at))
+    let step = step_at(sheet, at)?;
+    Some((step, after(sheet, at)))
 }
