@@ -48,12 +48,12 @@ pub record AtSeat {A : Type 0} (number : A → ℕ) (xs : List A) (d : A) (part 
   blank : number d ≡ 0
 
 module _ {A : Type 0} {number : A → ℕ} {xs : List A} {d : A} {part : List A} {i : ℕ} {x : A} (at : AtSeat number xs d part i x) where
-  nothing : (i < 8 → eqb (number x) 0 ≡ true) → [] ≡ part
+  pub nothing : (i < 8 → eqb (number x) 0 ≡ true) → [] ≡ part
   nothing e =
       let few = at.few in
       ⊎_elim (λ h. let l : i < 8 = omega arith in absurd (contrary (rw (at.row l) at (e l)) (at.full h))) (λ h. sym (at.absent h)) at.present
 
-  something : i < 8 → eqb (number x) 0 ≡ false → x ∷ [] ≡ part
+  pub something : i < 8 → eqb (number x) 0 ≡ false → x ∷ [] ≡ part
   something l e =
       ⊎_elim (λ h. rw (at.row l, at.there h))
       (λ h. absurd (contrary (eq-eqb (number x) 0 (ap number (at.row l ∙ get_or-eq_default xs d {n = i} (omega arith)) ∙ at.blank)) e)) at.present

@@ -2,17 +2,17 @@
 use Rattle.std.specs.Prelude.{if◌then◌else◌, Result, Ok, MatchResult, ◌≢◌}
 use mathlib.Core.Path.{◌≡◌, refl, sym, ap, ◌∙◌}
 use mathlib.Core.Logic.{⊎_elim}
-use mathlib.Core.Bool.{Bool, true, false, not, ◌&&◌, ◌||◌, and-false, and-eq-true_iff}
+use mathlib.Core.Bool.{Bool, true, false, ◌&&◌, and-false, and-eq-true_iff}
 use mathlib.Core.List.{List}
-use Prim.Native.Nat.{ℕ, zero, suc, ◌+◌, ◌-◌, ◌≤◌, ◌<◌}
+use Prim.Native.Nat.{ℕ, ◌-◌, ◌≤◌, ◌<◌}
 use native.Mathlib.Omega.{arith}
 use lib.Dec.{eqb, leb, ltb}
-use borrow.Author.Tests.{ne_eqb, lt-ltb, le-ltb, lt-leb, eqb-true, ltb-true, not-true, not-false}
-use Rattle.views.proofs.Truth.{decided, contrary, cases, either_true, neither_true}
+use borrow.Author.Tests.{ne_eqb, lt-ltb, le-ltb, eqb-true, ltb-true}
+use Rattle.views.proofs.Truth.{decided, contrary, cases}
 use Rattle.rules.specs.Messages.{Body, Message, Answer, dead, empty, bad_step, bad_world}
 use Rattle.rules.specs.State.{Relay, Place, free, waiting, World, relay_at, desk_at, place_at}
 use Rattle.rules.specs.declared.Desk as rules-desk
-use Rattle.rules.specs.Steps.{drop, Act, no_report, deliver, bad, told, Outcome, refusal, relay_does, desk_does, alive_in, if_alive, freed, delivers, delivery, dropping, crashing, acts, stepped}
+use Rattle.rules.specs.Steps.{drop, Act, no_report, deliver, bad, told, Outcome, relay_does, desk_does, alive_in, if_alive, freed, delivers, delivery, dropping, acts, stepped}
 use Rattle.rules.specs.declared.Step.{Step}
 use Rattle.rules.specs.declared.StepKind.{StepKind}
 use Rattle.rules.specs.declared.StepKind.TheVariants.{Join, Leave, Timer, Read, Write, Deliver, Drop, Crash}
@@ -23,18 +23,17 @@ use Rattle.rules.specs.Relays.{relay_hears}
 use Rattle.rules.specs.Desks.{desk_hears}
 use Rattle.rules.specs.WellFormed.{good_body, good_place}
 use Rattle.layout.specs.Layout.{place_begin}
-use Rattle.layout.specs.Image.{body_in, place_in, row_at, image, world_at, good_bytes}
+use Rattle.layout.specs.Image.{place_in, row_at, image, world_at, good_bytes}
 use Rattle.layout.specs.Lent.{kept, left, lent_step}
 use Rattle.rules.proofs.Kept.{to-desk}
 use Rattle.rules.specs.Table.{is_free}
 use Rattle.layout.proofs.World.{good_image}
-use Rattle.state.specs.declared.Body as Code-body
 use Rattle.state.specs.declared.Message as code-message
-use Rattle.state.specs.Meaning.{body_of, message_of}
+use Rattle.state.specs.Meaning.{message_of}
 use Rattle.image.specs.Parts.{message_row}
 use Rattle.image.proofs.Parts.{place_is}
 use Rattle.world.specs.Answer.{accepted}
-use Rattle.locality.specs.Narrow.{generator_of_body, move, move_of_body, widens}
+use Rattle.locality.specs.Narrow.{widens}
 use Rattle.locality.specs.Asked.{relay_asked, desk_asked}
 use Rattle.world.specs.Commits.{free_row, freed_at, delivered, relay_left, desk_left, relay_steps, desk_steps, crash_steps}
 use Rattle.world.proofs.Places.{free-row, is_free_lem}

@@ -1,5 +1,5 @@
 -- In what parts the code takes a step: what it looks up in the buffer, and what it makes of a plan. Assumes nothing.
-use Rattle.std.specs.Prelude.{◌≡◌, Bool, true, false, not, ◌&&◌, ◌||◌, List, ℕ, zero, suc, ◌+◌, ◌*◌, ◌-◌, ◌≤◌, ◌<◌, eqb, leb, ltb, get_or, set, replicate}
+use Rattle.std.specs.Prelude.{◌≡◌, Bool, true, false, not, ◌&&◌, ◌||◌, List, ℕ, zero, suc, ◌+◌, ◌*◌, ◌-◌, ◌≤◌, ◌<◌, eqb, ltb, get_or, set, replicate}
 use Rattle.std.specs.Prelude.{Option, unwrap_or, IfSome, if◌then◌else◌}
 use Rattle.rows.specs.Bytes.{u16_at, tab}
 use Rattle.rules.specs.Sets.{bit, those, inside, relay_count, desk_count, everyone}

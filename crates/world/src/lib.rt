@@ -101,7 +101,10 @@ fn relay_commits(
     ensures { (n : ℕ) (a : rules.Answer Relay) → plan_of plan ≡ planned no_relay a → Few a → delivered (world_at w.old) (unwrap_or p 256) ≡ true
         → done_of result w.new ≡ relay_left w.old n (unwrap_or p 256) s.number a }
 {
-    let plan = plan?;
+    let plan = match plan {
+        Ok(plan) => plan,
+        Err(refusal) => return Err(refusal),
+    };
     if !reads::has_room(w, p, plan.sends) {
         return Err(Refusal::NoRoom);
     }

@@ -132,7 +132,10 @@ fn generator_in(w: &[u8], s: RelayNumber, v: u16) -> Option<Generator>
 {
     let at = s.row() + layout::RELAY_GENERATORS;
     let row = at + generator_seat(w, at, v)? * layout::GENERATOR_WIDTH;
-    (rows::read_u16(w, row) != 0).then(|| image::generator_at(w, row))
+    if rows::read_u16(w, row) == 0 {
+        return None;
+    }
+    Some(image::generator_at(w, row))
 }
 
 // Its transfer from o to n, likewise.
@@ -142,7 +145,10 @@ fn transfer_in(w: &[u8], s: RelayNumber, o: u16, n: u16) -> Option<Transfer>
 {
     let at = s.row() + layout::RELAY_TRANSFERS;
     let row = at + transfer_seat(w, at, o, n)? * layout::TRANSFER_WIDTH;
-    (rows::read_u16(w, row + layout::TRANSFER_NEW) != 0).then(|| image::transfer_at(w, row))
+    if rows::read_u16(w, row + layout::TRANSFER_NEW) == 0 {
+        return None;
+    }
+    Some(image::transfer_at(w, row))
 }
 
 // The part of the relay s that shows the generator for v and the transfer from o to n.
@@ -165,8 +171,10 @@ fn generator_seated(w: &[u8], s: RelayNumber, part: Part) -> bool
     ensures { result ≡ leb (length (widened (relay_at (world_at w.now) s.number) (part_of part)).generators) 8 }
 {
     let at = s.row() + layout::RELAY_GENERATORS;
-    part.generator
-        .is_none_or(|g| generator_seat(w, at, g.view).is_some())
+    match &part.generator {
+        Some(g) => generator_seat(w, at, g.view).is_some(),
+        None => true,
+    }
 }
 
 fn transfer_seated(w: &[u8], s: RelayNumber, part: Part) -> bool

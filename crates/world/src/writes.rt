@@ -146,9 +146,10 @@ pub(crate) fn put_part(w: &mut [u8], s: RelayNumber, part: Part)
     let at = s.row();
     let generators = at + layout::RELAY_GENERATORS;
     // looked up before anything is written
-    let seat = part
-        .generator
-        .and_then(|g| super::reads::generator_seat(w, generators, g.view));
+    let seat = match &part.generator {
+        Some(g) => super::reads::generator_seat(w, generators, g.view),
+        None => None,
+    };
     put_transfers(w, s, part);
     image::put_head(w, at, part.head);
     let Some(g) = part.generator else {

@@ -1,10 +1,8 @@
 -- `world::crash` meets its contract. Assumes nothing.
-use mathlib.Core.Path.{refl, sym, ap, ◌∙◌}
+use mathlib.Core.Path.{refl, sym, ◌∙◌}
 use Prim.Native.Nat.{◌<◌}
 use native.Mathlib.Omega.{arith}
 use borrow.Author.Tests.{lt-ltb, le-ltb, not-true, not-false}
-use lib.ListN.{length}
-use Rattle.rows.proofs.Laws.{placed-length}
 use Rattle.rules.specs.Messages.{bad_step, dead}
 use Rattle.rules.specs.declared.Refusal.TheVariants.{BadStep, Dead}
 use Rattle.rules.specs.Steps.{no_report, crashing}

@@ -2,7 +2,6 @@
 use mathlib.Core.Path.{refl, sym, ap, ◌∙◌}
 use mathlib.Core.Bool.{and-eq-true_iff}
 use Rattle.std.specs.Prelude.{Err, Ok, unwrap_or}
-use Rattle.std.proofs.lemmas.Result.{err_from_is_err_and}
 use borrow.Author.Tests.{not-true, not-false}
 use Rattle.rules.specs.Messages.{no_room}
 use Rattle.rules.specs.declared.Refusal.TheVariants.{NoRoom}
@@ -17,37 +16,36 @@ use Rattle.world.proofs.Good.{shaped}
 use Rattle.world.proofs.Commit.{coded_number, refused_kept, done_accepted, plan_refuses, relay_crowded, relay_unseated, relay_done, freed-sent}
 use Rattle.world.proofs.relay_commits.Goals as goal
 
-pub returns-in_err-plan : goal.returns-in_err-plan
+pub returns-in-Err : goal.returns-in-Err
 unfolding plan_of relay_left relay_does
-returns-in_err-plan c n a e few d =
-    let p = err_from_is_err_and c.from_residual.result c.from_residual.ensures.1 in
-    let x = plan_refuses no_relay a (plan_of (Err c.in_err-plan.field-0.0)) (rw c.in_err-plan.was at e) (coded_number _) in
-    rw (p.1, p.2) (refused_kept _ x.why c.args.w.now x.numbered ∙ ap (relay_left c.args.w.now n (unwrap_or c.args.p 256) c.args.s.number) (sym x.is))
+returns-in-Err c n a e few d =
+    let x = plan_refuses no_relay a (plan_of (Err c.in-Err.refusal)) (rw c.in-Err.is at e) (coded_number _) in
+    refused_kept _ x.why c.args.w.now x.numbered ∙ ap (relay_left c.args.w.now n (unwrap_or c.args.p 256) c.args.s.number) (sym x.is)
 
 pub returns-then-not-has_room : goal.returns-then-not-has_room
 unfolding plan_of
 returns-then-not-has_room c n a e few d =
     refused_kept NoRoom no_room c.args.w.now refl
-    ∙ relay_crowded c.args.w.now c.requires (unwrap_or c.args.p 256) c.args.s.number n a (plan_of (Ok c.in_ok-plan.plan)) (rw c.in_ok-plan.was at e) few d refl
+    ∙ relay_crowded c.args.w.now c.requires (unwrap_or c.args.p 256) c.args.s.number n a (plan_of (Ok c.in-Ok.plan)) (rw c.in-Ok.is at e) few d refl
     (sym (c.has_room.ensures c.args.s.number) ∙ not-true _ c.if-not-has_room.true-raw)
 
 pub returns-then-not-has_seats : goal.returns-then-not-has_seats
 unfolding plan_of
 returns-then-not-has_seats c n a e few d =
     refused_kept NoRoom no_room c.args.w.now refl
-    ∙ relay_unseated c.args.w.now c.requires (unwrap_or c.args.p 256) c.args.s.number n a (plan_of (Ok c.in_ok-plan.plan)) (rw c.in_ok-plan.was at e) few d refl
+    ∙ relay_unseated c.args.w.now c.requires (unwrap_or c.args.p 256) c.args.s.number n a (plan_of (Ok c.in-Ok.plan)) (rw c.in-Ok.is at e) few d refl
     (sym c.has_seats.ensures ∙ not-true _ c.if-not-has_seats.true-raw)
 
 pub returns : goal.returns
 unfolding plan_of
 returns c n a e few d =
     let w = world_at c.args.w.now in
-    let r = widened (relay_at w c.args.s.number) (part_of c.in_ok-plan.plan.next) in
+    let r = widened (relay_at w c.args.s.number) (part_of c.in-Ok.plan.next) in
     let fits = sym c.has_seats.ensures ∙ not-false _ c.if-not-has_seats.false-raw in
     let two = (and-eq-true_iff _ _).0 fits in
     done_accepted _ _ _ c.tells.ensures
-    ∙ relay_done c.args.w.now c.requires (unwrap_or c.args.p 256) c.args.s.number n a (plan_of (Ok c.in_ok-plan.plan)) (rw c.in_ok-plan.was at e) few d refl
+    ∙ relay_done c.args.w.now c.requires (unwrap_or c.args.p 256) c.args.s.number n a (plan_of (Ok c.in-Ok.plan)) (rw c.in-Ok.is at e) few d refl
     (sym (c.has_room.ensures c.args.s.number) ∙ not-false _ c.if-not-has_room.false-raw) fits _
     (freed-sent (with_relay w c.args.s.number r) (shaped c.args.w.now c.requires).places (unwrap_or c.args.p 256) c.args.s.number
-    (sendings_of c.in_ok-plan.plan.sends) _ _ _
+    (sendings_of c.in-Ok.plan.sends) _ _ _
     (c.put_part.ensures two.0 two.1) c.free.ensures c.send_all.ensures)

@@ -1,6 +1,6 @@
 -- `world::step_any` meets its contract. Assumes nothing.
 use mathlib.Core.Path.{refl, sym, ◌∙◌}
-use borrow.Author.Tests.{not-true, not-false}
+use borrow.Author.Tests.{not-true}
 use Rattle.rules.specs.Messages.{bad_world}
 use Rattle.rules.specs.declared.Refusal.TheVariants.{BadWorld}
 use Rattle.world.proofs.Commit.{refused_kept}

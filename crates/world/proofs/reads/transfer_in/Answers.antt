@@ -1,10 +1,8 @@
 -- `world::reads::transfer_in` meets its contract. Assumes nothing.
-use borrow.Author.Rules.{rules}
-use Rattle.std.proofs.lemmas.Option.{IfSome_then}
+use borrow.Author.Tests.{eq-eqb, ne_eqb}
 use Rattle.layout.specs.Image.{transfer_at}
-use Rattle.state.specs.Meaning.{transfer_of}
 use Rattle.image.proofs.Meaning.{transfer_read}
-use Rattle.world.proofs.Good.{transfer_at_seat, shown, none_shown}
+use Rattle.world.proofs.Good.{transfer_at_seat, nothing, something, none_shown}
 use Rattle.world.proofs.reads.transfer_in.Goals as goal
 
 pub returns-in_err-row : goal.returns-in_err-row
@@ -13,11 +11,19 @@ returns-in_err-row c v =
     let seat = rw c.row-at.ensures at c.in_err-row.ensures.0 in
     rw c.from_residual.ensures (none_shown (transfer_at_seat c.args.w.now c.requires s.number s.is_relay v c.args.o c.args.n 8 seat))
 
+pub returns-then-read_u16-eq0 : goal.returns-then-read_u16-eq0
+unfolding transfer_at
+returns-then-read_u16-eq0 c v =
+    let s = c.args.s in
+    let seat = rw c.row-at.ensures at c.in_ok-row.ensures.0 in
+    nothing (transfer_at_seat c.args.w.now c.requires s.number s.is_relay v c.args.o c.args.n c.in_ok-row.field-0 seat)
+    (λ h. eq-eqb _ _ (rw (c.read_u16.ensures, c.row-at.ensures) at c.if-read_u16-eq0.true))
+
 pub returns : goal.returns
 unfolding transfer_at
 returns c v =
     let s = c.args.s in
     let seat = rw c.row-at.ensures at c.in_ok-row.ensures.0 in
-    shown (transfer_at_seat c.args.w.now c.requires s.number s.is_relay v c.args.o c.args.n c.in_ok-row.field-0 seat) transfer_of
-    c.in_ok-row.ensures.1 c.then.result (rw (c.read_u16.ensures, c.row-at.ensures) at c.then.ensures.variant)
-    (IfSome_then c.then.result c.then.ensures.some (λ x q. transfer_read _ _ (search rules)))
+    rw (transfer_read _ _ (rw c.row-at.ensures at c.transfer_at.ensures))
+    (something (transfer_at_seat c.args.w.now c.requires s.number s.is_relay v c.args.o c.args.n c.in_ok-row.field-0 seat) c.in_ok-row.ensures.1
+    (ne_eqb _ _ (rw (c.read_u16.ensures, c.row-at.ensures) at c.if-read_u16-eq0.false)))
