@@ -2,7 +2,7 @@
 // write that does not fit wholly writes nothing. Document 01, "The world" and "Sheets and the printed record".
 #![tactic(auto)]
 
-ghost use Rattle.std.specs.Prelude.{◌≡◌, [], ◌∷◌, ◌+◌, min, leb, length, get_or, drop, ◌==◌};
+ghost use Rattle.std.specs.Prelude.{◌≡◌, [], ◌∷◌, ◌+◌, ◌≤◌, min, leb, length, get_or, drop, ◌==◌};
 ghost use Rattle.std.specs.List.{list_all};
 ghost use Rattle.rows.specs.Bytes.{placed, bytes_of, be16, fields_of, sum, field_bytes, fields_bytes, u16_at, u32_at, zeros};
 ghost use Rattle.rows.specs.Tests.{all_zero};
@@ -26,12 +26,30 @@ pub fn byte_at(s: &[u8], at: usize) -> u8
     s.get(at).copied().unwrap_or(0)
 }
 
-// By a range, and not by `get_mut`: what is written through that is not known afterwards.
+// Bytes where there is room for them, and the position past them. By a range, and not by `get_mut`: what is written through that is not known afterwards.
+fn lay(s: &mut [u8], at: usize, bytes: &[u8]) -> usize
+    requires { at + length bytes.now ≤ length s.old }
+    ensures { (result ≡ at + length bytes.now) × (s.new ≡ placed s.old at bytes.now) }
+{
+    let end = at + bytes.len();
+    s[at..end].copy_from_slice(bytes);
+    end
+}
+
+// Zeros, likewise.
+fn wipe(s: &mut [u8], at: usize, n: usize) -> usize
+    requires { at + n ≤ length s.old }
+    ensures { (result ≡ at + n) × (s.new ≡ placed s.old at (zeros n)) }
+{
+    s[at..at + n].fill(0);
+    at + n
+}
+
 fn put_bytes(s: &mut [u8], at: usize, bytes: &[u8])
     ensures { s.new ≡ placed s.old at bytes.now }
 {
     if has_room(s.len(), at, bytes.len()) {
-        s[at..at + bytes.len()].copy_from_slice(bytes);
+        lay(s, at, bytes);
     }
 }
 
@@ -51,7 +69,7 @@ pub fn clear(s: &mut [u8], at: usize, n: usize)
     ensures { s.new ≡ placed s.old at (zeros n) }
 {
     if has_room(s.len(), at, n) {
-        s[at..at + n].fill(0);
+        wipe(s, at, n);
     }
 }
 
@@ -78,15 +96,17 @@ impl Field {
     }
 }
 
-fn put_field(s: &mut [u8], at: usize, field: Field)
-    ensures { s.new ≡ placed s.old at (field_bytes field) }
+// A field where there is room for it, and the position past it.
+fn put_field(s: &mut [u8], at: usize, field: Field) -> usize
+    requires { at + length (field_bytes field) ≤ length s.old }
+    ensures { (result ≡ at + length (field_bytes field)) × (s.new ≡ placed s.old at (field_bytes field)) }
 {
     match field {
-        Field::Flag(x) => put_byte(s, at, x as u8),
-        Field::Byte(x) => put_byte(s, at, x),
-        Field::U16(x) => put_u16(s, at, x),
-        Field::U32(x) => put_bytes(s, at, &x.to_be_bytes()),
-        Field::Zeros(n) => clear(s, at, n as usize),
+        Field::Flag(x) => lay(s, at, &[x as u8]),
+        Field::Byte(x) => lay(s, at, &[x]),
+        Field::U16(x) => lay(s, at, &x.to_be_bytes()),
+        Field::U32(x) => lay(s, at, &x.to_be_bytes()),
+        Field::Zeros(n) => wipe(s, at, n as usize),
     }
 }
 
@@ -105,7 +125,7 @@ fn row_fits(len: usize, at: usize, fields: &[Field]) -> bool
     end <= len
 }
 
-// A row: fields one after another.
+// A row: fields one after another. Whether all fit is asked once, so that none of them asks.
 pub fn put_row(s: &mut [u8], at: usize, fields: &[Field])
     ensures { s.new ≡ placed s.old at (fields_bytes fields.now) }
 {
@@ -114,8 +134,7 @@ pub fn put_row(s: &mut [u8], at: usize, fields: &[Field])
     }
     let mut p = at;
     for field in fields {
-        put_field(s, p, *field);
-        p += field.width();
+        p = put_field(s, p, *field);
     }
 }
 

@@ -208,6 +208,13 @@ pub all_copies : (from : ℕ) (s : Sending) → copies from s ≡ map (message f
 unfolding copies receivers_below tab message
 all_copies from s = refl
 
+-- to nobody goes nothing
+pub no_copies : (from : ℕ) (s : Sending) → s.receivers ≡ 0 → copies from s ≡ []
+no_copies from s e = all_copies from s ∙ rw (e, nobody)
+  where
+    nobody : receivers_below 0 12 ≡ []
+    nobody = unfold receivers_below tab those in refl
+
 -- the receivers as a chain finds them
 pub receivers_found : (m n : ℕ) → filter (bit m) (range_with_len 0 n) ≡ receivers_below m n
 unfolding receivers_below

@@ -53,6 +53,10 @@ fn send(w: &mut [u8], from: u8, x: Sending)
     ensures { (W : World) → length W.places ≡ 256 → w.old ≡ image W
         → w.new ≡ image (with_places W (rules.place_all (copies from (sending_of x)) W.places)) }
 {
+    // most rules leave a sending empty
+    if x.receivers == 0 {
+        return;
+    }
     let mut low = 0;
     // A number here is a receiver: its name and its bit.
     for to in (0..rules::EVERYONE as u8).filter(|n| (x.receivers >> *n) % 2 == 1) {

@@ -23,7 +23,7 @@ returns-in_default c g h =
 pub returns-in_default-seat : goal.returns-in_default-seat
 returns-in_default-seat c g h =
     let looked : MatchOption c.args.part.generator (c.match-part.seat ≡ None)
-        (λ x. Found 8 (ends_view c.args.w.now (generators_begin c.args.s.number) x.view) c.match-part.seat) =
+    (λ x. Found 8 (ends_view c.args.w.now (generators_begin c.args.s.number) x.view) c.match-part.seat) =
     elim c.match-part.branch [
       | in-Some w ↦ rw (w.in-Some.is, w.seat-is) (rw c.row-at.ensures at w.generator_seat-seat.ensures)
       | in-None w ↦ rw w.in-None.is w.seat-is
@@ -34,7 +34,7 @@ returns-in_default-seat c g h =
 pub returns : goal.returns
 returns c g h =
     let looked : MatchOption c.args.part.generator (c.match-part.seat ≡ None)
-        (λ x. Found 8 (ends_view c.args.w.now (generators_begin c.args.s.number) x.view) c.match-part.seat) =
+    (λ x. Found 8 (ends_view c.args.w.now (generators_begin c.args.s.number) x.view) c.match-part.seat) =
     elim c.match-part.branch [
       | in-Some w ↦ rw (w.in-Some.is, w.seat-is) (rw c.row-at.ensures at w.generator_seat-seat.ensures)
       | in-None w ↦ rw w.in-None.is w.seat-is

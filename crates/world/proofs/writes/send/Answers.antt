@@ -1,5 +1,5 @@
 -- `world::writes::send` meets its contract: the copies so far are sent. Assumes nothing.
-use mathlib.Core.Path.{refl}
+use mathlib.Core.Path.{refl, ◌∙◌}
 use mathlib.Core.List.{map-id}
 use native.Mathlib.Omega.{arith}
 use borrow.Author.Rules.{rules}
@@ -7,9 +7,14 @@ use borrow.Author.Tests.{tests}
 use Rattle.std.proofs.lemmas.Iterator.{YieldsList-from_range}
 use Rattle.std.proofs.lemmas.Iterator.Consumers.{YieldsList-at, YieldsList-from_filter, YieldsList-end}
 use Rattle.rules.specs.Sets.{bit}
+use Rattle.rules.specs.Sending.{place_all}
 use Rattle.state.specs.Meaning.{body_of, sending_of}
-use Rattle.world.proofs.Places.{taken_none, placed-none, placed_one, all_copies, receivers_found}
+use Rattle.world.proofs.Places.{taken_none, placed-none, placed_one, no_copies, all_copies, receivers_found}
 use Rattle.world.proofs.writes.send.Goals as goal
+
+pub returns-then-x-eq0 : goal.returns-then-x-eq0
+unfolding sending_of place_all
+returns-then-x-eq0 c W long e = e ∙ rw (no_copies c.args.from (sending_of c.args.x) c.if-x-eq0.true)
 
 pub loop-to-init : goal.loop-to-init
 loop-to-init c = (placed-none refl, taken_none)
