@@ -85,6 +85,8 @@ pub fn head_at(s: &[u8], at: usize) -> Head
     }
 }
 
+// (In the callers' own frames, as a desk's row: so a start takes fewer than 256 bytes of the stack, as docs/CERTIFICATE.md has it.)
+#[inline(always)]
 pub fn put_head(s: &mut [u8], at: usize, h: Head)
     ensures { s.new ≡ placed s.old at (head_bytes (relay_of h [] [])) }
 {
@@ -250,6 +252,7 @@ pub fn desk_at(s: &[u8], at: usize) -> Desk
     }
 }
 
+#[inline(always)]
 pub fn put_desk(s: &mut [u8], at: usize, d: Desk)
     ensures { s.new ≡ placed s.old at (desk_bytes d) }
 {
