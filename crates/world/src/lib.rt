@@ -101,6 +101,7 @@ fn relay_commits(
     ensures { (n : ℕ) (a : rules.Answer Relay) → plan_of plan ≡ planned no_relay a → Few a → delivered (world_at w.old) (unwrap_or p 256) ≡ true
         → done_of result w.new ≡ relay_left w.old n (unwrap_or p 256) s.number a }
 {
+    // no `?`, which moves a plan of a kilobyte twice more
     let plan = match plan {
         Ok(plan) => plan,
         Err(refusal) => return Err(refusal),

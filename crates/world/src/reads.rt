@@ -125,7 +125,8 @@ pub(crate) fn transfer_seat(w: &[u8], at: usize, o: u16, n: u16) -> Option<usize
     (0..rules::SEATS).find(|i| ends_move(w, at + *i * layout::TRANSFER_WIDTH, o, n))
 }
 
-// The generator of the relay s for v, if it is there.
+// The generator of the relay s for v, if it is there. (An early return and no `then`, and below a `match` by reference and no `is_none_or`: each closure would
+// move the generator's 768 bytes once more.)
 fn generator_in(w: &[u8], s: RelayNumber, v: u16) -> Option<Generator>
     requires { good_bytes w.now ≡ true }
     ensures { (m : Move) → listed generator_of result ≡ (narrow (relay_at (world_at w.now) s.number) v m).generators }
