@@ -38,7 +38,7 @@ impl Iterator for Reader<'_> {
     }
 }
 
-// One step: the step that is read at a position, if one is left there, and the position past it. Every loop over a sheet's steps goes through it, by `next`.
+// One step: the step that is read at a position, if one is left there, and the position past it. The loops of a run and of its record go by it, through `next`.
 pub fn read_at(sheet: &[u8], at: usize) -> Option<(Step, usize)>
     ensures { result ≡ taken_at sheet.now at }
 {

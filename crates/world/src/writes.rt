@@ -149,7 +149,7 @@ pub(crate) fn put_part(w: &mut [u8], s: RelayNumber, part: Part)
 {
     let at = s.row();
     let generators = at + layout::RELAY_GENERATORS;
-    // looked up before anything is written
+    // looked up before anything is written (by reference: a closure would move the generator)
     let seat = match &part.generator {
         Some(g) => super::reads::generator_seat(w, generators, g.view),
         None => None,
