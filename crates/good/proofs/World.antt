@@ -24,7 +24,8 @@ use Rattle.rules.specs.State.{Generator, Transfer, Relay, Place, World, no_relay
 use Rattle.rules.specs.declared.Desk.{Desk}
 use Rattle.rules.specs.Generators.{fresh}
 use Rattle.rules.specs.Relays.{fresh_transfer}
-use Rattle.rules.specs.WellFormed.{is_view, is_pair, distinct, implies, same_bool, good_generator, good_transfer, other_view, other_move, good_generators, good_transfers, good_relay, good_desk, good_place, well_formed}
+use Rattle.rules.specs.WellFormed.{is_view, is_pair, distinct, implies, same_bool, good_generator, good_transfer, other_view, other_move}
+use Rattle.rules.specs.WellFormed.{good_generators, good_transfers, good_relay, good_desk, good_place, well_formed}
 use Rattle.layout.specs.Layout.{head_width, generator_width, transfer_width, generators_width, transfers_width, relay_generators, relay_transfers, relay_width}
 use Rattle.layout.specs.Layout.{desk_width, message_width, world_desks, world_places, world_zeros, world_width, world_rest, relay_begin, desk_begin, place_begin}
 use Rattle.layout.specs.Image.{head_bytes, generator_bytes, transfer_bytes, relay_bytes, desk_bytes, place_bytes, image, generator_at, transfer_at, filled_generator, filled_transfer, relay_at, desk_at, row_at, place_in, world_at, good_bytes}
@@ -38,7 +39,8 @@ use Rattle.state.specs.declared.Head.{Head}
 use Rattle.state.specs.Meaning.{relay_of}
 use Rattle.image.specs.Parts.{head_at}
 use Rattle.image.proofs.Parts.{relay_parts, head_alone}
-use Rattle.good.specs.Rows.{held, differs, head_good, generator_row_good, transfer_row_good, other_generator, other_transfer, place_filled, filled_good, desk_good, place_good, relay_good, rows_good}
+use Rattle.good.specs.Rows.{held, differs, head_good, generator_row_good, transfer_row_good, other_generator, other_transfer, place_filled}
+use Rattle.good.specs.Rows.{filled_good, desk_good, place_good, relay_good, rows_good}
 use Rattle.good.proofs.Held.{from-tab, all-tab, held_true, held_fact}
 use Rattle.good.proofs.Rows.{rows_same}
 
@@ -62,7 +64,8 @@ module _ (l : List ℕ) (s o : ℕ) where
       GeneratorFits (generator_fits s) no_generator (generator_filled s) generator_at l (generator_back l) o room
 
   transfers_same : o + transfers_width ≤ length l → let ts = those filled_transfer (tab 8 (λ k. transfer_at l (o + k * transfer_width))) in
-      all 8 (filled_good other_transfer transfer_row_good transfer_width l s o) ≡ good_transfers s ts && held l o (table transfer_bytes (fresh_transfer 0 0) 8 ts)
+      all 8 (filled_good other_transfer transfer_row_good transfer_width l s o)
+      ≡ good_transfers s ts && held l o (table transfer_bytes (fresh_transfer 0 0) 8 ts)
   unfolding filled_good place_filled differs other_transfer transfer_row_good good_transfers
   transfers_same room =
       rows_same transfer_bytes (fresh_transfer 0 0) transfer_width length_transfer transfer_zeros_lem filled_transfer unfilled_transfer (good_transfer s) other_move

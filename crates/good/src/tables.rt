@@ -1,4 +1,5 @@
-// A table of eight rows of a relay's: its generators, or its transfers. What a closure's call asks for is written at the closure: in generic code it is not inferred.
+// A table of eight rows of a relay's: its generators, or its transfers. What a closure's call asks for is written at the closure: in generic code it is not
+// inferred.
 ghost use Rattle.std.specs.Prelude.{◌≡◌, not, ◌-◌, ◌+◌, ◌*◌, ◌≤◌, ◌<◌, length};
 ghost use Rattle.rows.specs.Tests.{all, all_zero};
 ghost use Rattle.rules.specs.Sets.{seat_count};

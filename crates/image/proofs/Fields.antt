@@ -13,7 +13,8 @@ use Rattle.layout.specs.Image.{sequence_bytes}
 use Rattle.image.proofs.Widths.{length-sequence}
 
 pub around : (l q : List ℕ) (o : ℕ) (fs gs : List Field) {l₁ l₂ t : List ℕ}
-    → l₁ ≡ placed l o (fields_bytes fs) → l₂ ≡ placed l₁ (o + row_width fs) (sequence_bytes q) → t ≡ placed l₂ (o + (row_width fs + sequence_width)) (fields_bytes gs)
+    → l₁ ≡ placed l o (fields_bytes fs) → l₂ ≡ placed l₁ (o + row_width fs) (sequence_bytes q)
+    → t ≡ placed l₂ (o + (row_width fs + sequence_width)) (fields_bytes gs)
     → o + (row_width fs + sequence_width + row_width gs) ≤ length l → t ≡ placed l o ((fields_bytes fs ++ sequence_bytes q) ++ fields_bytes gs)
 around l q o fs gs {l₁} {l₂} {t} e₁ e₂ e₃ fit =
     let p₁ = put_first (fields_bytes fs) l₁ (fields_bytes-length fs) e₁ in

@@ -16,7 +16,8 @@ use Rattle.layout.specs.Layout.{generator_width, transfer_width, relay_generator
 use Rattle.layout.specs.Kinds.{kind_of}
 use Rattle.layout.specs.declared.MessageKind.{MessageKind}
 use Rattle.layout.specs.declared.MessageKind.TheVariants.{Request, View, Proposal, Converged, Install, State, Get, Put, ViewReply, PairReply, Ack}
-use Rattle.layout.specs.Image.{body_row, body_by, body_in, place_in, row_bytes, place_bytes, head_bytes, relay_at, generator_at, transfer_at, filled_generator, filled_transfer}
+use Rattle.layout.specs.Image.{body_row, body_by, body_in, place_in, row_bytes, place_bytes, head_bytes, relay_at, generator_at, transfer_at}
+use Rattle.layout.specs.Image.{filled_generator, filled_transfer}
 use Rattle.layout.proofs.Rows.{addressed, row_of_lem}
 use Rattle.state.specs.declared.Head.{Head}
 use Rattle.state.specs.declared.Body.{Body}

@@ -99,8 +99,8 @@ pub fn join(a: u16, b: u16) -> u16
 // "it has at most 15"
 pub const VIEWS: usize = 15;
 
-// A row of views, innermost first; the entries from len on are unused. (Fixed room with a length beside it: nothing allocates, and document 01 asks for "a row of
-// view numbers with a length".)
+// A row of views, innermost first; the entries from len on are unused. (Fixed room with a length beside it: nothing allocates, and document 01 asks for
+// "a row of view numbers with a length".)
 #[derive(Clone, Copy)]
 pub struct Sequence {
     pub views: [u16; VIEWS],

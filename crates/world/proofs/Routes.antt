@@ -12,7 +12,8 @@ use Rattle.views.proofs.Truth.{decided, contrary, cases}
 use Rattle.rules.specs.Messages.{Body, Message, Answer, dead, empty, bad_step, bad_world}
 use Rattle.rules.specs.State.{Relay, Place, free, waiting, World, relay_at, desk_at, place_at}
 use Rattle.rules.specs.declared.Desk as rules-desk
-use Rattle.rules.specs.Steps.{drop, Act, no_report, deliver, bad, told, Outcome, relay_does, desk_does, alive_in, if_alive, freed, delivers, delivery, dropping, acts, stepped}
+use Rattle.rules.specs.Steps.{drop, Act, no_report, deliver, bad, told, Outcome, relay_does, desk_does, alive_in, if_alive, freed, delivers}
+use Rattle.rules.specs.Steps.{delivery, dropping, acts, stepped}
 use Rattle.rules.specs.declared.Step.{Step}
 use Rattle.rules.specs.declared.StepKind.{StepKind}
 use Rattle.rules.specs.declared.StepKind.TheVariants.{Join, Leave, Timer, Read, Write, Deliver, Drop, Crash}
@@ -67,7 +68,8 @@ module _ (k : Step) where
   abbrev pub Tells : Result StepKind Refusal → Type 0
   Tells r = MatchResult r (λ kind. k.kind ≡ kind_number kind) (λ x. (x ≡ BadStep) × (told k ≡ bad))
 
-  of_kind : (m : ℕ) (kind : StepKind) (r : Result StepKind Refusal) → m ≡ kind_number kind → (eqb k.kind m ≡ false → Tells r) → Tells (if eqb k.kind m then Ok kind else r)
+  of_kind : (m : ℕ) (kind : StepKind) (r : Result StepKind Refusal) → m ≡ kind_number kind → (eqb k.kind m ≡ false → Tells r)
+      → Tells (if eqb k.kind m then Ok kind else r)
   of_kind m kind r q f = cases Tells (eqb k.kind m) (λ e. eqb-true k.kind m e ∙ q) f
 
   pub kind_tells : Tells (kind_told k.kind)

@@ -151,7 +151,8 @@ fn relay_acts<F: FnOnce(u8, Part) -> Result<Plan<Part>, Refusal>>(
     requires good { good_bytes w.old ≡ true }
     requires callable { F.IsAlwaysCallable ask }
     ensures { (kind : ℕ)
-        → ((part : code-part.Part) (plan : Result (code-plan.Plan code-part.Part) code-refusal.Refusal) → s < 8 → shows_view (part_of part).view (part_of part) ≡ true
+        → ((part : code-part.Part) (plan : Result (code-plan.Plan code-part.Part) code-refusal.Refusal) → s < 8
+        → shows_view (part_of part).view (part_of part) ≡ true
         → F.post ask s part plan → plan_of plan ≡ planned no_relay (relay_asked kind s (part_of part)))
         → done_of result w.new ≡ lent.left w.old (relay_steps (world_at w.old) kind s) }
 {

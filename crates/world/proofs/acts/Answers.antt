@@ -36,7 +36,8 @@ unfolding relay_asked
 returns-in-Timer c =
     let number : c.args.k.kind ≡ 3 = c.requires.kind ∙ ap kind_number c.in-Timer.is in
     let none : c.args.k.value ≡ 0 = (c.requires.value (λ e. let q = sym (ap kind_number c.in-Timer.is) ∙ ap kind_number e in absurd (omega arith))) in
-    c.relay_acts-in-Timer.ensures 3 (λ p plan low own h. let k : plan_of plan ≡ planned no_relay (timer_answer (part_of p)) = search rules in k ∙ ap (planned no_relay) (timer_fits (part_of p) own))
+    c.relay_acts-in-Timer.ensures 3 (λ p plan low own h. let k : plan_of plan ≡ planned no_relay (timer_answer (part_of p)) = search rules in
+    k ∙ ap (planned no_relay) (timer_fits (part_of p) own))
     ∙ ap (left c.args.w.now) (sym (timer_steps c.args.k (world_at c.args.w.now) none number)) ∙ step_left c.args.w.now c.requires.good c.args.k _ refl
 
 pub returns-in-Read : goal.returns-in-Read
@@ -70,4 +71,5 @@ pub returns-in-Crash : goal.returns-in-Crash
 returns-in-Crash c =
     let number : c.args.k.kind ≡ 8 = c.requires.kind ∙ ap kind_number c.in-Crash.is in
     let none : c.args.k.value ≡ 0 = (c.requires.value (λ e. let q = sym (ap kind_number c.in-Crash.is) ∙ ap kind_number e in absurd (omega arith))) in
-    c.crash.ensures ∙ ap (left c.args.w.now) (sym (crash_told c.args.k (world_at c.args.w.now) none number)) ∙ step_left c.args.w.now c.requires.good c.args.k _ refl
+    c.crash.ensures ∙ ap (left c.args.w.now) (sym (crash_told c.args.k (world_at c.args.w.now) none number))
+    ∙ step_left c.args.w.now c.requires.good c.args.k _ refl

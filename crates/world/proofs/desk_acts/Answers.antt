@@ -23,7 +23,8 @@ pub returns-then-not-alive_at : goal.returns-then-not-alive_at
 returns-then-not-alive_at c d kind x h =
     let w = world_at d.args.w.now in
     refused_kept Dead dead d.args.w.now refl
-    ∙ dead-left d.args.w.now (8 + d.args.n) (desk_does w 0 d.args.n (desk_asked kind x (desk_at w d.args.n))) (sym d.alive_at.ensures ∙ not-true _ d.if-not-alive_at.true-raw)
+    ∙ dead-left d.args.w.now (8 + d.args.n) (desk_does w 0 d.args.n (desk_asked kind x (desk_at w d.args.n)))
+    (sym d.alive_at.ensures ∙ not-true _ d.if-not-alive_at.true-raw)
     ∙ rw (lt-ltb d.args.n 4 d.if-n-ge-DESKS.false)
 
 pub returns : goal.returns

@@ -36,6 +36,8 @@ returns c k a e few d =
     done_accepted _ _ _ c.tells.ensures
     ∙ desk-done c.args.w.now c.requires.0 (unwrap_or c.args.p 256) c.args.n k a (desk_plan_of (Ok c.in_ok-plan.plan)) (rw c.in_ok-plan.was at e) few d refl
     (sym (c.has_room.ensures (8 + c.args.n)) ∙ not-false _ c.if-not-has_room.false-raw) _
-    (freed-sent (with_desk (world_at c.args.w.now) c.args.n c.in_ok-plan.plan.next) (shaped c.args.w.now c.requires.0).places (unwrap_or c.args.p 256) (8 + c.args.n)
+    (freed-sent (with_desk (world_at c.args.w.now) c.args.n c.in_ok-plan.plan.next) (shaped c.args.w.now c.requires.0).places
+    (unwrap_or c.args.p 256) (8 + c.args.n)
     (sendings_of c.in_ok-plan.plan.sends) _ _ _
-    (rw (c.row_of.ensures ∙ desk_row c.args.n) at c.put_desk.ensures ∙ desk-put c.args.w.now c.requires.0 c.args.n c.requires.1 c.in_ok-plan.plan.next) c.free.ensures c.send_all.ensures)
+    (rw (c.row_of.ensures ∙ desk_row c.args.n) at c.put_desk.ensures ∙ desk-put c.args.w.now c.requires.0 c.args.n c.requires.1 c.in_ok-plan.plan.next)
+    c.free.ensures c.send_all.ensures)

@@ -26,7 +26,8 @@ returns c =
     let ask = desk_hears n d c.args.m.from x in
     let low : n < 4 = omega (arith, c.requires.1.1.0, c.requires.1.1.1) in
     let back : 8 + n ≡ c.args.m.to = omega (arith, c.requires.1.1.0) in
-    let is : c.desk_at-desk.result ≡ d = rw (c.row_of.ensures ∙ ap row_of (sym back) ∙ desk_row n) at c.desk_at-desk.ensures ∙ sym (desk_at_lem c.args.w.now n low) in
+    let is : c.desk_at-desk.result ≡ d =
+    rw (c.row_of.ensures ∙ ap row_of (sym back) ∙ desk_row n) at c.desk_at-desk.ensures ∙ sym (desk_at_lem c.args.w.now n low) in
     c.desk_commits.ensures 1 ask (c.hears.ensures ∙ ap (λ (e : Desk). planned no_desk (desk_hears n e c.args.m.from x)) is) (desk_few n d c.args.m.from x)
     (held-delivered c.args.w.now c.requires.0 c.args.p (search rules) m c.requires.1.0)
     ∙ to-desk-left c.args.w.now c.requires.0 c.args.p (search rules) m c.requires.1.1.0

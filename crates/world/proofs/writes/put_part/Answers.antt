@@ -29,7 +29,8 @@ returns-in_default-seat c g h =
       | in-None w ↦ rw w.in-None.is w.seat-is
     ] in
     let f = rw c.in_default-seat.is at (MatchOption-at_some _ _ c.in-Some-generator.g c.in-Some-generator.is looked) in
-    absurd (contrary g (sym (seated_found c.args.w.now c.requires c.args.s.number c.args.s.is_relay c.args.part c.in-Some-generator.g c.in-Some-generator.is None f)))
+    absurd (contrary g (sym (seated_found c.args.w.now c.requires c.args.s.number c.args.s.is_relay c.args.part
+    c.in-Some-generator.g c.in-Some-generator.is None f)))
 
 pub returns : goal.returns
 returns c g h =
