@@ -72,7 +72,7 @@ def declared(path):
 # The module that defines a name, through each `pub use` that passes it on.
 def origin(path):
     found = re.fullmatch(r'Rattle\.(\w+)\.(specs|proofs)\.(\S+)', path)
-    if not found or found[3].startswith('declared.'):
+    if not found or found[3].startswith(('declared.', 'contracts.')):
         return path
     if not os.path.isdir(f'crates/{found[1]}'):
         return origin_in_kit(path, *found.groups())
@@ -462,6 +462,8 @@ class Function:
     def __init__(self, path, name, parameters, result, promises, taken=(), names=None):
         self.path, self.parameters, self.result, self.promises, self.names = path, parameters, result, promises, names
         self.key = f'{place(path)[0]}_{name}'
+        # the trait that a type derives it by, if it is that
+        self.derived = None
         # the types that it takes, each known by its place
         self.taken = {variable: f'%{at}' for at, variable in enumerate(taken)}
 
@@ -591,10 +593,10 @@ def head(path, name, start):
     return every, parameters(path, listed, own), of_impl(result, own), found, body
 
 
-# The function of this name, after which start the parameters; of a trait's, its impl.
+# The function of this name, after which start the parameters; of a trait's, its impl, or what a type derives.
 def function(path, name, start, block=None):
     if block:
-        return trait_function(path, name, start, block)
+        return derived_function(path, block) if isinstance(block, Derived) else trait_function(path, name, start, block)
     taken, listed, result, found, _ = head(path, name, start)
     promises = {}
     for word, label, body in found:
@@ -688,8 +690,70 @@ def trait_function(path, name, start, block):
     body = ' '.join(text.split('.', 1)[1].split())
     if not body or re.search('[⌜⌝]', body):
         raise Unread(f'{path}: impl {block.trait} for {block.kind}: this is no promise: {body}')
-    kind = re.sub(r'(?<!^)(?=[A-Z])', '_', bare(block.kind)[1].split('<')[0].split('::')[-1]).lower()
-    return Function(path, f'{kind}_{name}', [(names[0], listed[0][1])], result, {'': body}, taken, dict(zip(names, meant)))
+    return Function(path, f'{snake(bare(block.kind)[1])}_{name}', [(names[0], listed[0][1])], result, {'': body}, taken, dict(zip(names, meant)))
+
+
+# The name of a type within the name of a function: step_kind of rules::StepKind.
+def snake(kind):
+    return re.sub(r'(?<!^)(?=[A-Z])', '_', kind.split('<')[0].split('::')[-1]).lower()
+
+
+# ---- sources: what a type derives
+
+# Of each trait that a public type may derive: its function, with the parameters and the result, and the promise, where `ghosts` is what the prover makes of the
+# type's fields. (`ne` beside `eq`, `lt` and its like, `max`, `min` and `clamp` are the library's own, and go by these.)
+GHOSTS = 'ghosts'
+TWO = (('self', '&Self'), ('other', '&Self'))
+DERIVED = {
+    'PartialEq': ('eq', TWO, 'bool', 'result ≡ (ghosts).eq self.now other.now'),
+    'PartialOrd': ('partial_cmp', TWO, 'Option<Ordering>', 'result ≡ (ghosts).partial_cmp self.now other.now'),
+    'Ord': ('cmp', TWO, 'Ordering', 'result ≡ (ghosts).cmp self.now other.now'),
+    'Default': ('default', (), 'Self', '(ghosts).is_default result'),
+}
+# Those of which the prover makes no function: laws of `eq`; and, where both are derived, a copy, by `clone` too, which is the value as it is.
+SILENT = ({'Eq'}, {'Clone', 'Copy'})
+
+# A public type that derives a trait of DERIVED.
+Derived = collections.namedtuple('Derived', 'kind trait')
+
+
+# What the types of a source derive: whether each is public, its name, and the traits.
+def derives(path):
+    text = code(path)
+    found = re.findall(r'#\[derive\(([^()]*)\)\]\s*(?:(pub)\s+)?(?:pub\s*\([^)]*\)\s*)?(?:struct|enum)\s+(\w+)(<?)', text)
+    if len(found) != len(re.findall(r'\bderiv', text)):
+        raise Unread(f'{path}: what is derived here is not all understood')
+    return [(public_ == 'pub', name, taken, {*parted(listed)}) for listed, public_, name, taken in found]
+
+
+# The functions that the public types of a source derive, as `function` takes them.
+def derived_functions(path):
+    found = []
+    for public_, name, taken, traits in derives(path):
+        told = traits & {*DERIVED}
+        silent = set().union(*(group for group in SILENT if group <= traits))
+        unread = traits - silent if taken else traits - told - silent
+        if public_ and unread:
+            raise Unread(f'{path}: {name} derives {", ".join(sorted(unread))}: what that makes public is not read')
+        found += [(path, DERIVED[trait][0], 0, Derived(name, trait)) for trait in DERIVED if public_ and trait in told]
+    return found
+
+
+# What a type derives, as a function of its own: rules_step_kind_eq.
+def derived_function(path, block):
+    name, listed, result, promise = DERIVED[block.trait]
+    ghosts = '.'.join([f'Rattle.{place(path)[0]}.specs.contracts', *filter(None, [place(path)[1]]), block.kind + block.trait, 'TheImpl', GHOSTS])
+    parameters_ = [(variable, of_impl(kind, block.kind)) for variable, kind in listed]
+    found = Function(path, f'{snake(block.kind)}_{name}', parameters_, of_impl(result, block.kind), {'': promise.replace(GHOSTS, ghosts)})
+    found.derived = block.trait
+    return found
+
+
+# The ghost that the promise of a derived function names, as two words of a statement: whose it is, and its field.
+def ghost_of(f):
+    words = f.promised('')
+    at = next(at for at, word in enumerate(words) if word.endswith('.' + GHOSTS))
+    return words[at:at + 2]
 
 
 # ---- sources: what is public
@@ -714,6 +778,8 @@ def public(path):
         raise Unread(f'{path}: {found} what it makes public is not read')
     for name in re.findall(r'\bpub\s+(?:\w+\s+)*trait\s+(\w+)', text):
         raise Unread(f'{path}: pub trait {name}: what a trait makes public is not read')
-    heads = re.finditer(r'(?:\bpub(?!\s*\()|\bextern\s+"C")\s+(?:(?:const|unsafe|async|extern|"C")\s+)*fn\s+(\w+)', text)
+    if re.search(r'\bmacro_rules\b', text):
+        raise Unread(f'{path}: macro_rules: what a macro makes public is not read')
+    heads = re.finditer(r'(?:\bpub(?!\s*\()|\bextern\s+"\w+")\s+(?:(?:const|unsafe|async|extern|"\w+")\s+)*fn\s+(\w+)', text)
     own = [(path, found[1], found.end()) for found in heads if is_public(path) or impl_at(path, found.start())]
-    return own + [made for block in impls(path) if block.trait for made in trait_functions(path, block)]
+    return own + [made for block in impls(path) if block.trait for made in trait_functions(path, block)] + derived_functions(path)

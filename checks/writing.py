@@ -64,17 +64,26 @@ def imported_from(full):
     return module, name
 
 
+def free(path, full, name, taken):
+    """This name, where it means nothing else in the file."""
+    if name in {*taken, *p.known(path)[1]}:
+        raise p.Unread(f'{path}: {full} can be imported under no name that is free')
+    return name
+
+
 def brought(path, full, bound):
-    """Imports what has this full name, and says how it is spelt now: alone, or after its module's name where its own is taken."""
+    """Imports what has this full name, and says how it is spelt now: alone, after its module's name where its own is taken, or, of what a type derives, by the
+    type and the trait."""
     module, name = imported_from(full)
     if means(path, name, {}) is None:
         without(path, name)
     taken = {*p.known(path)[0], *bound}
-    if taken & {name, *filter(None, name.split(p.HOLE))} and p.HOLE not in name:
+    if name == p.GHOSTS:
+        spelt = free(path, full, p.snake(module.split('.')[-2]), taken)
+        line = f'use {module}.{{{name} as {spelt}}}'
+    elif taken & {name, *filter(None, name.split(p.HOLE))} and p.HOLE not in name:
         other = module.removesuffix('.TheVariants').split('.')[-1].lower()
-        line, spelt = f'use {module} as {other}', f'{other}.{name}'
-        if other in {*taken, *p.known(path)[1]}:
-            raise p.Unread(f'{path}: {full} can be imported under no name that is free')
+        line, spelt = f'use {module} as {free(path, full, other, taken)}', f'{other}.{name}'
     else:
         line, spelt = f'use {module}.{{{name}}}', name
     text, group = p.read(path), group_of(path, module)
@@ -90,7 +99,7 @@ def brought(path, full, bound):
 def spelt(path, word, full, bound):
     """How a file spells what has this full name: as the source does, after a module's name, or imported."""
     own = full.split('.')[-1] if word.startswith('Rattle.') else word.split('.')[-1]
-    ways = [own] + [f'{module}.{own}' for module in sorted(p.known(path)[1])]
+    ways = [own] + [f'{module}.{own}' for module in sorted(p.known(path)[1])] + sorted(p.imported(path)[0])
     if not word.startswith('Rattle.'):
         ways.insert(0, word)
     found = next((way for way in ways if means(path, way, bound) == full), None)

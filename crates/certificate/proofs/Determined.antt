@@ -3,7 +3,8 @@
 -- the unused fields of a body may differ (docs/DECISIONS.md, 34). Assumes nothing.
 --
 -- Each line is the promise as it stands in the source (checks/total compares them): r is the result; of a lent buffer, its name is what it held
--- before and b what it holds afterwards. A function with several promises has a line for each, by its name.
+-- before and b what it holds afterwards. A function with several promises has a line for each, by its name. What a type derives has no text in the source: its
+-- promise is what the prover makes of the type's fields, here by the type's name and the trait's, as `stamp_ord.cmp`; Derived.antt says what each of these is.
 use Rattle.std.specs.Prelude.{if◌then◌else◌, Option, Result, Ok, Err}
 use Rattle.std.specs.Iterator.{YieldsFirst}
 use mathlib.Core.Path.{◌≡◌, refl, sym, ap, ◌∙◌}
@@ -21,6 +22,12 @@ use Rattle.stamps.specs.Stamp.{compared_of, greater_of, greatest_of, fresh_pair}
 use Rattle.stamps.specs.Stamp as stamps
 use Rattle.stamps.specs.declared.Stamp.{Stamp}
 use Rattle.stamps.specs.declared.Pair.{Pair}
+use Rattle.stamps.specs.contracts.StampPartialEq.TheImpl.{ghosts as stamp_partial_eq}
+use Rattle.stamps.specs.contracts.StampPartialOrd.TheImpl.{ghosts as stamp_partial_ord}
+use Rattle.stamps.specs.contracts.StampOrd.TheImpl.{ghosts as stamp_ord}
+use Rattle.stamps.specs.contracts.StampDefault.TheImpl.{ghosts as stamp_default}
+use Rattle.stamps.specs.contracts.PairPartialEq.TheImpl.{ghosts as pair_partial_eq}
+use Rattle.stamps.specs.contracts.PairDefault.TheImpl.{ghosts as pair_default}
 use Rattle.rows.specs.Bytes as rows
 use Rattle.rows.specs.Bytes.{placed, be16, u16_at, u32_at, zeros}
 use Rattle.rows.specs.Tests.{all_zero}
@@ -40,11 +47,17 @@ use Rattle.layout.specs.Image.{sequence_bytes, pair_at, head_bytes, generator_by
 use Rattle.layout.specs.Kinds.{number_of_kind, kind_of}
 use Rattle.layout.specs.declared.MessageKind.{MessageKind}
 use Rattle.layout.specs.Lent.{Lent, lent_start, lent_step}
+use Rattle.layout.specs.contracts.MessageKindPartialEq.TheImpl.{ghosts as message_kind_partial_eq}
 use Rattle.rules.specs.Sheets as sheets
 use Rattle.rules.specs.Runs.{decimal, line, fields, start_of, end_of, bad_of}
 use Rattle.rules.specs.declared.Desk.{Desk}
 use Rattle.rules.specs.declared.Phase.{Phase}
 use Rattle.rules.specs.declared.Step.{Step}
+use Rattle.rules.specs.contracts.RefusalPartialEq.TheImpl.{ghosts as refusal_partial_eq}
+use Rattle.rules.specs.contracts.StepKindPartialEq.TheImpl.{ghosts as step_kind_partial_eq}
+use Rattle.rules.specs.declared.StepKind.{StepKind}
+use Rattle.rules.specs.contracts.StepPartialEq.TheImpl.{ghosts as step_partial_eq}
+use Rattle.rules.specs.contracts.PhasePartialEq.TheImpl.{ghosts as phase_partial_eq}
 use Rattle.state.specs.declared.Notes.{Notes}
 use Rattle.state.specs.declared.Generator.{Generator}
 use Rattle.state.specs.declared.Transfer.{Transfer}
@@ -68,6 +81,8 @@ use Rattle.image.specs.Parts.{notes_bytes, head_at, message_row, sequence_row_at
 use Rattle.sheet.specs.Reading.{check_of, front_of, step_at, after_of, taken_at, steps_left}
 use Rattle.sheet.specs.Writing.{ruled, ruled_size, buffer_of, number_of, size_of}
 use Rattle.sheet.specs.declared.reader.Reader.{Reader}
+use Rattle.sheet.specs.contracts.SheetPartialEq.TheImpl.{ghosts as sheet_partial_eq}
+use Rattle.sheet.specs.declared.Sheet.{Sheet}
 use Rattle.record.specs.Lines.{laid, past, step_of}
 use Rattle.world.specs.Answer.{report_of, lent_of, answer_of}
 use Rattle.world.specs.Tracing.{columns_of, waiting_rows, trace_answer, trace_world, trace_left}
@@ -187,6 +202,24 @@ stamps_greatest held new = by_equation (greatest_of held new)
 pub stamps_fresh : Determined (λ r. r ≡ fresh_pair)
 stamps_fresh = by_equation fresh_pair
 
+pub stamps_stamp_eq : (self other : Stamp) → Determined (λ r. r ≡ stamp_partial_eq.eq self other)
+stamps_stamp_eq self other = by_equation (stamp_partial_eq.eq self other)
+
+pub stamps_stamp_partial_cmp : (self other : Stamp) → Determined (λ r. r ≡ stamp_partial_ord.partial_cmp self other)
+stamps_stamp_partial_cmp self other = by_equation (stamp_partial_ord.partial_cmp self other)
+
+pub stamps_stamp_cmp : (self other : Stamp) → Determined (λ r. r ≡ stamp_ord.cmp self other)
+stamps_stamp_cmp self other = by_equation (stamp_ord.cmp self other)
+
+pub stamps_stamp_default : Determined (λ r. stamp_default.is_default r)
+stamps_stamp_default r s e f = λ i. record { count = (e.0 ∙ sym f.0) i; desk = (e.1 ∙ sym f.1) i }
+
+pub stamps_pair_eq : (self other : Pair) → Determined (λ r. r ≡ pair_partial_eq.eq self other)
+stamps_pair_eq self other = by_equation (pair_partial_eq.eq self other)
+
+pub stamps_pair_default : Determined (λ r. pair_default.is_default r)
+stamps_pair_default r s e f = λ i. record { stamp = stamps_stamp_default r.stamp s.stamp e.0 f.0 i; value = (e.1 ∙ sym f.1) i }
+
 -- ---- rows; of a function that writes, the bytes after it, where s is what the buffer held before
 
 pub rows_has_room : (len at n : ℕ) → Determined (λ r. r ≡ leb (at + n) len)
@@ -230,6 +263,18 @@ rules_number self = by_equation (coded.number_of self)
 pub rules_step_kind_try_from : (number : ℕ) → Determined (λ r. r ≡ kind_told number)
 rules_step_kind_try_from number = by_equation (kind_told number)
 
+pub rules_refusal_eq : (self other : Refusal) → Determined (λ r. r ≡ refusal_partial_eq.eq self other)
+rules_refusal_eq self other = by_equation (refusal_partial_eq.eq self other)
+
+pub rules_step_kind_eq : (self other : StepKind) → Determined (λ r. r ≡ step_kind_partial_eq.eq self other)
+rules_step_kind_eq self other = by_equation (step_kind_partial_eq.eq self other)
+
+pub rules_step_eq : (self other : Step) → Determined (λ r. r ≡ step_partial_eq.eq self other)
+rules_step_eq self other = by_equation (step_partial_eq.eq self other)
+
+pub rules_phase_eq : (self other : Phase) → Determined (λ r. r ≡ phase_partial_eq.eq self other)
+rules_phase_eq self other = by_equation (phase_partial_eq.eq self other)
+
 pub rules_begun : (self : Desk) (phase : Phase) (view : ℕ) (holds : Pair) → Determined (λ r. r ≡ begun self phase view holds)
 rules_begun self phase view holds = by_equation (begun self phase view holds)
 
@@ -243,6 +288,9 @@ layout_number self = by_equation (number_of_kind self)
 
 pub layout_message_kind_from : (number : ℕ) → Determined (λ r. r ≡ kind_of number)
 layout_message_kind_from number = by_equation (kind_of number)
+
+pub layout_message_kind_eq : (self other : MessageKind) → Determined (λ r. r ≡ message_kind_partial_eq.eq self other)
+layout_message_kind_eq self other = by_equation (message_kind_partial_eq.eq self other)
 
 -- ---- messages
 
@@ -467,6 +515,9 @@ sheet_write_answer buf mask kinds ids values r s e f =
 
 pub sheet_write_left : (buf : List ℕ) (mask : ℕ) (kinds ids values : List ℕ) → Determined (λ b. b ≡ buffer_of buf (ruled buf mask kinds ids values))
 sheet_write_left buf mask kinds ids values = by_equation (buffer_of buf (ruled buf mask kinds ids values))
+
+pub sheet_sheet_eq : (self other : Sheet) → Determined (λ r. r ≡ sheet_partial_eq.eq self other)
+sheet_sheet_eq self other = by_equation (sheet_partial_eq.eq self other)
 
 reader_back : (r s : Reader) → r.sheet ≡ s.sheet → r.at ≡ s.at → r ≡ s
 reader_back r s e f = λ i. record { sheet = e i; at = f i }

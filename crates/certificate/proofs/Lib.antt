@@ -2,6 +2,8 @@
 
 -- "Two results that satisfy one promise are proved equal"
 pub mod Determined
+-- what a type derives, in words
+pub mod Derived
 -- what a parameter of a type can be
 pub mod Typed
 pub mod ImageTyped

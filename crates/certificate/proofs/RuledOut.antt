@@ -1,9 +1,12 @@
 -- Wrong programs that the promises rule out, two or more for every public function: views, stamps, rows and rules. Each line says that the promise, with a
 -- wrong program in the place of the result, does not hold for every input; its name says what the program does; its proof names an input at which the two
 -- differ, one that the function's parameters can have, and the difference is computed. Assumes nothing.
-use Rattle.std.specs.Prelude.{if◌then◌else◌, Result, Ok, Err}
+use Rattle.std.specs.Prelude.{if◌then◌else◌, Option, None, Some, Result, Ok, Err}
+use Rattle.std.specs.Ordering.{ordering_then, nat_cmp}
+use Rattle.std.specs.declared.cmp.Ordering.{Ordering}
+use Rattle.std.specs.declared.cmp.Ordering.TheVariants.{Less, Equal, Greater}
 use mathlib.Core.Path.{◌≡◌}
-use mathlib.Core.Bool.{true, not, ◌&&◌, cond}
+use mathlib.Core.Bool.{true, false, not, ◌&&◌, cond}
 use mathlib.Core.List.{List, [], ◌∷◌, ◌++◌}
 use Prim.Native.Nat.{ℕ, ◌+◌, ◌-◌, ◌*◌, ◌/◌, ◌%◌, ◌≤◌, min, max}
 use lib.Bits.{bit_and, bit_or}
@@ -20,6 +23,12 @@ use Rattle.stamps.specs.Stamp.{sign_of, compared_of, greater_of, greatest_of, fr
 use Rattle.stamps.specs.Stamp as stamps
 use Rattle.stamps.specs.declared.Stamp.{Stamp}
 use Rattle.stamps.specs.declared.Pair.{Pair}
+use Rattle.stamps.specs.contracts.StampPartialEq.TheImpl.{ghosts as stamp_partial_eq}
+use Rattle.stamps.specs.contracts.StampPartialOrd.TheImpl.{ghosts as stamp_partial_ord}
+use Rattle.stamps.specs.contracts.StampOrd.TheImpl.{ghosts as stamp_ord}
+use Rattle.stamps.specs.contracts.StampDefault.TheImpl.{ghosts as stamp_default}
+use Rattle.stamps.specs.contracts.PairPartialEq.TheImpl.{ghosts as pair_partial_eq}
+use Rattle.stamps.specs.contracts.PairDefault.TheImpl.{ghosts as pair_default}
 use Rattle.rows.specs.Bytes.{splice, placed, bytes_of, fields_of, field_bytes, fields_bytes, number_at, be16, u16_at, u32_at, run, zeros}
 use Rattle.rows.specs.Tests.{all, all_zero}
 use Rattle.rows.specs.declared.Field.{Field}
@@ -28,14 +37,19 @@ use Rattle.rules.specs.Coded.{number_of, kind_number, kind_told}
 use Rattle.rules.specs.declared.Refusal.{Refusal}
 use Rattle.rules.specs.declared.Refusal.TheVariants.{BadWorld, BadStep, BadSheet}
 use Rattle.rules.specs.declared.StepKind.{StepKind}
-use Rattle.rules.specs.declared.StepKind.TheVariants.{Crash}
+use Rattle.rules.specs.declared.StepKind.TheVariants.{Join, Crash}
 use Rattle.rules.specs.Desks.{cleared, begun, ended}
 use Rattle.layout.specs.Image.{phase_number}
 use Rattle.rules.specs.declared.Desk.{Desk}
 use Rattle.rules.specs.declared.Phase.{Phase}
 use Rattle.rules.specs.declared.Phase.TheVariants.{Idle, Read1}
+use Rattle.rules.specs.declared.Step.{Step}
+use Rattle.rules.specs.contracts.RefusalPartialEq.TheImpl.{ghosts as refusal_partial_eq}
+use Rattle.rules.specs.contracts.StepKindPartialEq.TheImpl.{ghosts as step_kind_partial_eq}
+use Rattle.rules.specs.contracts.PhasePartialEq.TheImpl.{ghosts as phase_partial_eq}
+use Rattle.rules.specs.contracts.StepPartialEq.TheImpl.{ghosts as step_partial_eq}
 use Rattle.certificate.proofs.Differ.{differ, itself, truth, entry}
-use Rattle.certificate.proofs.Typed.{in_bytes, in_u16, in_u32s, in_u8, in_usize, slice, in_Desk, in_Field, in_Pair, in_Sequence, in_Stamp}
+use Rattle.certificate.proofs.Typed.{in_bytes, in_u16, in_u32s, in_u8, in_usize, slice, in_Desk, in_Field, in_Pair, in_Sequence, in_Stamp, in_Step}
 
 -- ---- views
 
@@ -314,6 +328,60 @@ stamps_fresh_from_count_1 p = differ (λ (x : Pair). x.stamp.count) p tt
 pub stamps_fresh_with_a_value : ¬ (pair 0 0 1 ≡ fresh_pair)
 stamps_fresh_with_a_value p = differ value p tt
 
+pub stamps_stamp_eq_by_count : ¬ ((self other : Stamp) → T (in_Stamp self) → T (in_Stamp other)
+    → eqb self.count other.count ≡ stamp_partial_eq.eq self other)
+stamps_stamp_eq_by_count p = differ truth (p (stamp 2 1) (stamp 2 0) tt tt) tt
+
+pub stamps_stamp_eq_by_desk : ¬ ((self other : Stamp) → T (in_Stamp self) → T (in_Stamp other)
+    → eqb self.desk other.desk ≡ stamp_partial_eq.eq self other)
+stamps_stamp_eq_by_desk p = differ truth (p (stamp 2 1) (stamp 3 1) tt tt) tt
+
+-- an answer of an order, from one; 0 where there is none
+abbrev ordered : Ordering → ℕ
+ordered Less = 1
+ordered Equal = 2
+ordered Greater = 3
+
+abbrev compared : Option Ordering → ℕ
+compared None = 0
+compared (Some o) = ordered o
+
+pub stamps_stamp_partial_cmp_by_count : ¬ ((self other : Stamp) → T (in_Stamp self) → T (in_Stamp other)
+    → Some (nat_cmp self.count other.count) ≡ stamp_partial_ord.partial_cmp self other)
+stamps_stamp_partial_cmp_by_count p = differ compared (p (stamp 2 1) (stamp 2 0) tt tt) tt
+
+pub stamps_stamp_partial_cmp_equals_apart : ¬ ((self other : Stamp) → T (in_Stamp self) → T (in_Stamp other)
+    → (if stamp_partial_eq.eq self other then None else Some (stamp_ord.cmp self other)) ≡ stamp_partial_ord.partial_cmp self other)
+stamps_stamp_partial_cmp_equals_apart p = differ compared (p (stamp 2 1) (stamp 2 1) tt tt) tt
+
+pub stamps_stamp_cmp_counts_only : ¬ ((self other : Stamp) → T (in_Stamp self) → T (in_Stamp other)
+    → nat_cmp self.count other.count ≡ stamp_ord.cmp self other)
+stamps_stamp_cmp_counts_only p = differ ordered (p (stamp 2 1) (stamp 2 0) tt tt) tt
+
+pub stamps_stamp_cmp_desks_first : ¬ ((self other : Stamp) → T (in_Stamp self) → T (in_Stamp other)
+    → ordering_then (nat_cmp self.desk other.desk) (nat_cmp self.count other.count) ≡ stamp_ord.cmp self other)
+stamps_stamp_cmp_desks_first p = differ ordered (p (stamp 3 0) (stamp 2 3) tt tt) tt
+
+pub stamps_stamp_default_from_count_1 : ¬ (stamp_default.is_default (stamp 1 0))
+stamps_stamp_default_from_count_1 p = differ itself p.0 tt
+
+pub stamps_stamp_default_of_the_last_desk : ¬ (stamp_default.is_default (stamp 0 3))
+stamps_stamp_default_of_the_last_desk p = differ itself p.1 tt
+
+pub stamps_pair_eq_by_stamp : ¬ ((self other : Pair) → T (in_Pair self) → T (in_Pair other)
+    → stamp_partial_eq.eq self.stamp other.stamp ≡ pair_partial_eq.eq self other)
+stamps_pair_eq_by_stamp p = differ truth (p (pair 2 1 7) (pair 2 1 8) tt tt) tt
+
+pub stamps_pair_eq_by_value : ¬ ((self other : Pair) → T (in_Pair self) → T (in_Pair other)
+    → eqb self.value other.value ≡ pair_partial_eq.eq self other)
+stamps_pair_eq_by_value p = differ truth (p (pair 2 1 7) (pair 1 1 7) tt tt) tt
+
+pub stamps_pair_default_from_count_1 : ¬ (pair_default.is_default (pair 1 0 0))
+stamps_pair_default_from_count_1 p = differ itself p.0.0 tt
+
+pub stamps_pair_default_with_a_value : ¬ (pair_default.is_default (pair 0 0 1))
+stamps_pair_default_with_a_value p = differ itself p.1 tt
+
 -- ---- rows
 
 pub rows_has_room_one_byte_spare : ¬ ((len at n : ℕ) → T (in_usize len) → T (in_usize at) → T (in_usize n) → ltb (at + n) len ≡ leb (at + n) len)
@@ -428,6 +496,32 @@ pub rules_step_kind_try_from_a_crash_of_any_other : ¬ ((number : ℕ) → T (in
     → (if eqb number 0 then Ok Crash else kind_told number) ≡ kind_told number)
 unfolding kind_told
 rules_step_kind_try_from_a_crash_of_any_other p = differ kind_as (p 0 tt) tt
+
+pub rules_refusal_eq_always : ¬ ((self other : Refusal) → true ≡ refusal_partial_eq.eq self other)
+rules_refusal_eq_always p = differ truth (p BadWorld BadStep) tt
+
+pub rules_refusal_eq_of_no_greater_number : ¬ ((self other : Refusal) → leb (number_of self) (number_of other) ≡ refusal_partial_eq.eq self other)
+rules_refusal_eq_of_no_greater_number p = differ truth (p BadWorld BadStep) tt
+
+pub rules_step_kind_eq_never : ¬ ((self other : StepKind) → false ≡ step_kind_partial_eq.eq self other)
+rules_step_kind_eq_never p = differ truth (p Crash Crash) tt
+
+pub rules_step_kind_eq_of_no_greater_number : ¬ ((self other : StepKind) → leb (kind_number self) (kind_number other) ≡ step_kind_partial_eq.eq self other)
+rules_step_kind_eq_of_no_greater_number p = differ truth (p Join Crash) tt
+
+pub rules_step_eq_by_kind_and_id : ¬ ((self other : Step) → T (in_Step self) → T (in_Step other)
+    → eqb self.kind other.kind && eqb self.id other.id ≡ step_partial_eq.eq self other)
+rules_step_eq_by_kind_and_id p = differ truth (p (record { kind = 5; id = 0; value = 1 }) (record { kind = 5; id = 0; value = 2 }) tt tt) tt
+
+pub rules_step_eq_by_kind_and_value : ¬ ((self other : Step) → T (in_Step self) → T (in_Step other)
+    → eqb self.kind other.kind && eqb self.value other.value ≡ step_partial_eq.eq self other)
+rules_step_eq_by_kind_and_value p = differ truth (p (record { kind = 1; id = 0; value = 0 }) (record { kind = 1; id = 1; value = 0 }) tt tt) tt
+
+pub rules_phase_eq_always : ¬ ((self other : Phase) → true ≡ phase_partial_eq.eq self other)
+rules_phase_eq_always p = differ truth (p Idle Read1) tt
+
+pub rules_phase_eq_never : ¬ ((self other : Phase) → false ≡ phase_partial_eq.eq self other)
+rules_phase_eq_never p = differ truth (p Idle Idle) tt
 
 -- a desk in read 1 of try 5, to which relay 0 has replied
 abbrev reading : Desk

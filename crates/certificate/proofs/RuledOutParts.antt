@@ -26,7 +26,8 @@ use Rattle.rules.specs.Desks.{cleared}
 use Rattle.rules.specs.Desks as desks
 use Rattle.layout.specs.Kinds.{number_of_kind, kind_of}
 use Rattle.layout.specs.declared.MessageKind.{MessageKind}
-use Rattle.layout.specs.declared.MessageKind.TheVariants.{Request}
+use Rattle.layout.specs.declared.MessageKind.TheVariants.{Request, View}
+use Rattle.layout.specs.contracts.MessageKindPartialEq.TheImpl.{ghosts as message_kind_partial_eq}
 use Rattle.layout.specs.Image.{phase_number, body_row, body_in}
 use Rattle.rules.specs.declared.Desk.{Desk}
 use Rattle.rules.specs.declared.Phase.{Phase}
@@ -68,6 +69,13 @@ layout_message_kind_from_a_request_of_no_kind p = differ number_of_kind (p 0 tt)
 pub layout_message_kind_from_the_next : ¬ ((number : ℕ) → T (in_u8 number) → kind_of (number + 1) ≡ kind_of number)
 unfolding kind_of
 layout_message_kind_from_the_next p = differ number_of_kind (p 1 tt) tt
+
+pub layout_message_kind_eq_always : ¬ ((self other : MessageKind) → true ≡ message_kind_partial_eq.eq self other)
+layout_message_kind_eq_always p = differ truth (p Request View) tt
+
+pub layout_message_kind_eq_of_no_greater_number : ¬ ((self other : MessageKind)
+    → leb (number_of_kind self) (number_of_kind other) ≡ message_kind_partial_eq.eq self other)
+layout_message_kind_eq_of_no_greater_number p = differ truth (p Request View) tt
 
 -- ---- messages; the fields of a body, and a body with another
 
@@ -485,17 +493,20 @@ put = record { kind = 8; first = 1; second = 0; tries = 5; sequence = row_of [];
 
 pub relay_hears_refused_always : ¬ ((s : ℕ) (p : Part) (from : ℕ) (b : Body) → T (in_u8 s) → T (in_Part p) → T (in_u8 from) → T (in_Body b)
     → planned no_relay (rules.refused rules.not_yet) ≡ planned no_relay (hears_answer s (part_of p) from (body_of b)))
-unfolding part_of relay_of body_of body_in kind_of views_of row_of inside_of fitting fit.hears_in_row hears_answer relays.relay_hears relays.get_heard planned padded
+unfolding part_of relay_of body_of body_in kind_of views_of row_of inside_of fitting fit.hears_in_row hears_answer
+    relays.relay_hears relays.get_heard planned padded
 relay_hears_refused_always p = differ answer (p 0 (part true 1 1 0) 8 get tt tt tt tt) tt
 
 pub relay_hears_and_does_nothing : ¬ ((s : ℕ) (p : Part) (from : ℕ) (b : Body) → T (in_u8 s) → T (in_Part p) → T (in_u8 from) → T (in_Body b)
     → planned no_relay (rules.quietly (part_of p)) ≡ planned no_relay (hears_answer s (part_of p) from (body_of b)))
-unfolding part_of relay_of body_of body_in kind_of views_of row_of inside_of fitting fit.hears_in_row hears_answer relays.relay_hears relays.get_heard planned padded
+unfolding part_of relay_of body_of body_in kind_of views_of row_of inside_of fitting fit.hears_in_row hears_answer
+    relays.relay_hears relays.get_heard planned padded
 relay_hears_and_does_nothing p = differ sent_to (p 0 (part true 1 1 0) 8 get tt tt tt tt) tt
 
 pub relay_hears_and_acknowledges_only : ¬ ((s : ℕ) (p : Part) (from : ℕ) (b : Body) → T (in_u8 s) → T (in_Part p) → T (in_u8 from) → T (in_Body b)
     → planned no_relay (rules.sends (part_of p) (rules.to_one from (rules.ack b.tries) ∷ [])) ≡ planned no_relay (hears_answer s (part_of p) from (body_of b)))
-unfolding part_of relay_of body_of body_in kind_of views_of row_of inside_of sign_of compared_of greater_of greatest_of with_holds fitting fit.hears_in_row hears_answer relays.relay_hears relays.put_heard planned padded
+unfolding part_of relay_of body_of body_in kind_of views_of row_of inside_of sign_of compared_of greater_of greatest_of with_holds fitting
+    fit.hears_in_row hears_answer relays.relay_hears relays.put_heard planned padded
 relay_hears_and_acknowledges_only p = differ (λ (x : Planned state.Relay). x.next.holds.value) (p 0 (part true 1 1 0) 8 put tt tt tt tt) tt
 
 -- ---- desk
@@ -535,13 +546,15 @@ of_try d try = record { alive = d.alive; view = d.view; phase = d.phase; tries =
 
 pub desk_hears_nothing : ¬ ((n : ℕ) (d : Desk) (from : ℕ) (b : Body) → T (in_u8 n) → T (in_Desk d) → T (in_u8 from) → T (in_Body b)
     → planned no_desk (rules.quietly d) ≡ planned no_desk (desks.desk_hears n d from (body_of b)))
-unfolding body_of body_in kind_of views_of row_of member_of ones ones_in reaches_of sign_of compared_of greater_of greatest_of stamps.same_of desks.notes_pair desks.completes desks.counted desks.pair_came desks.desk_hears planned padded
+unfolding body_of body_in kind_of views_of row_of member_of ones ones_in reaches_of sign_of compared_of greater_of greatest_of stamps.same_of
+    desks.notes_pair desks.completes desks.counted desks.pair_came desks.desk_hears planned padded
 desk_hears_nothing p = differ phased (p 0 (desk Read1) 0 (reply 5) tt tt tt tt) tt
 
 -- "Letting a reply from an older try complete a quorum."
 pub desk_hears_any_try : ¬ ((n : ℕ) (d : Desk) (from : ℕ) (b : Body) → T (in_u8 n) → T (in_Desk d) → T (in_u8 from) → T (in_Body b)
     → planned no_desk (desks.desk_hears n (of_try d b.tries) from (body_of b)) ≡ planned no_desk (desks.desk_hears n d from (body_of b)))
-unfolding body_of body_in kind_of views_of row_of member_of ones ones_in reaches_of sign_of compared_of greater_of greatest_of stamps.same_of desks.notes_pair desks.completes desks.counted desks.pair_came desks.desk_hears planned padded
+unfolding body_of body_in kind_of views_of row_of member_of ones ones_in reaches_of sign_of compared_of greater_of greatest_of stamps.same_of
+    desks.notes_pair desks.completes desks.counted desks.pair_came desks.desk_hears planned padded
 desk_hears_any_try p = differ phased (p 0 (desk Read1) 0 (reply 4) tt tt tt tt) tt
 
 pub desk_note_reply_not_at_all : ¬ ((desk : Desk) (from : ℕ) (p : Pair) → T (in_Desk desk) → T (in_u8 from) → T (in_Pair p) → desk ≡ reply_noted desk from p)

@@ -17,13 +17,14 @@ use Rattle.rules.specs.Runs.{digits, decimal, line, start_word, bad_word, start_
 use Rattle.sheet.specs.Reading.{check_of, front_of, step_at, after_of, taken_at, steps_left}
 use Rattle.sheet.specs.Writing.{listed, ruled, ruled_size, buffer_of, number_of, size_of}
 use Rattle.sheet.specs.declared.Sheet.{Sheet}
+use Rattle.sheet.specs.contracts.SheetPartialEq.TheImpl.{ghosts as sheet_partial_eq}
 use Rattle.sheet.specs.declared.reader.Reader.{Reader}
 use Rattle.rules.specs.declared.Refusal.{Refusal}
 use Rattle.rules.specs.declared.Refusal.TheVariants.{NoRoom, BadSheet}
 use Rattle.rules.specs.declared.Step.{Step}
 use Rattle.record.specs.Lines.{laid, past, step_of}
-use Rattle.certificate.proofs.Differ.{differ, itself, entry}
-use Rattle.certificate.proofs.Typed.{in_bytes, in_u16, in_u32, in_u32s, in_u8, in_usize, in_Reader}
+use Rattle.certificate.proofs.Differ.{differ, itself, truth, entry}
+use Rattle.certificate.proofs.Typed.{in_bytes, in_u16, in_u32, in_u32s, in_u8, in_usize, in_Reader, in_Sheet}
 
 -- ---- sheet
 
@@ -44,6 +45,12 @@ sheet_check_mask_0_accepted p = differ is_bad (p (headed (0 ∷ [])) tt) tt
 pub sheet_check_refused_always : ¬ ((b : List ℕ) → T (in_bytes b) → Err BadSheet ≡ check_of b)
 unfolding all_zeros_in all_zero all form_of number_at check_of
 sheet_check_refused_always p = differ is_bad (p (headed (1 ∷ [])) tt) tt
+
+pub sheet_sheet_eq_by_mask : ¬ ((self other : Sheet) → T (in_Sheet self) → T (in_Sheet other) → eqb self.mask other.mask ≡ sheet_partial_eq.eq self other)
+sheet_sheet_eq_by_mask p = differ truth (p (record { mask = 1; steps = 2 }) (record { mask = 1; steps = 3 }) tt tt) tt
+
+pub sheet_sheet_eq_by_steps : ¬ ((self other : Sheet) → T (in_Sheet self) → T (in_Sheet other) → eqb self.steps other.steps ≡ sheet_partial_eq.eq self other)
+sheet_sheet_eq_by_steps p = differ truth (p (record { mask = 1; steps = 2 }) (record { mask = 2; steps = 2 }) tt tt) tt
 
 abbrev found : Option Step → ℕ
 found None = 0

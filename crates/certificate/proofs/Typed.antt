@@ -27,6 +27,7 @@ use Rattle.state.specs.declared.Sendings.{Sendings}
 use Rattle.state.specs.declared.Event.{Event}
 use Rattle.state.specs.declared.Event.TheVariants as events
 use Rattle.state.specs.declared.Plan.{Plan}
+use Rattle.sheet.specs.declared.Sheet.{Sheet}
 use Rattle.sheet.specs.declared.reader.Reader.{Reader}
 use Rattle.world.specs.declared.Answer.{Answer}
 use Rattle.world.specs.declared.Report.{Report}
@@ -140,6 +141,9 @@ in_Event (events.WriteDone x0) = in_Pair x0
 
 abbrev pub in_Plan : {A : Type 0} → (A → Bool) → Plan A → Bool
 in_Plan f x = f x.next && in_Sendings x.sends && in_Event x.event
+
+abbrev pub in_Sheet : Sheet → Bool
+in_Sheet x = in_u8 x.mask && in_usize x.steps
 
 abbrev pub in_Reader : Reader → Bool
 in_Reader x = in_bytes x.sheet.now && in_usize x.at

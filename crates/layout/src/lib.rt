@@ -170,7 +170,7 @@ pub const MESSAGE_REST: u8 = (MESSAGE_WIDTH - MESSAGE_ZEROS) as u8;
 // The place is free.
 pub const NO_KIND: u8 = 0;
 
-#[derive(Clone, Copy, PartialEq, Eq, Debug)]
+#[derive(Clone, Copy, PartialEq, Eq)]
 pub enum MessageKind {
     Request = 1,
     View,

@@ -19,7 +19,7 @@ pub const SEATS: usize = 8;
 pub const VIEWS: usize = views::VIEWS;
 
 // The refusals, as document 01's table of answers numbers them; 0 is "done".
-#[derive(Clone, Copy, PartialEq, Eq, Debug)]
+#[derive(Clone, Copy, PartialEq, Eq)]
 pub enum Refusal {
     BadWorld = 1,
     BadStep,
@@ -41,7 +41,7 @@ impl Refusal {
 }
 
 // The kinds of steps: "1 JOIN relay, 2 LEAVE relay, 3 TIMER relay, 4 READ desk, 5 WRITE desk value, 6 DELIVER place, 7 DROP place, 8 CRASH who".
-#[derive(Clone, Copy, PartialEq, Eq, Debug)]
+#[derive(Clone, Copy, PartialEq, Eq)]
 pub enum StepKind {
     Join = 1,
     Leave,
@@ -76,7 +76,7 @@ impl TryFrom<u8> for StepKind {
 }
 
 // A step as a sheet has it: any bytes and any value.
-#[derive(Clone, Copy, PartialEq, Eq, Debug)]
+#[derive(Clone, Copy, PartialEq, Eq)]
 pub struct Step {
     pub kind: u8,
     pub id: u8,
@@ -84,7 +84,7 @@ pub struct Step {
 }
 
 // "phase (idle, read 1, read 2, write 1, write 2)"
-#[derive(Clone, Copy, PartialEq, Eq, Debug)]
+#[derive(Clone, Copy, PartialEq, Eq)]
 pub enum Phase {
     Idle,
     Read1,

@@ -37,7 +37,7 @@ const VALUE_AT: usize = 4;
 pub const MOST: usize = 8000;
 
 // What an accepted sheet says before its steps, and how many those are.
-#[derive(Clone, Copy, PartialEq, Eq, Debug)]
+#[derive(Clone, Copy, PartialEq, Eq)]
 pub struct Sheet {
     pub mask: u8,
     pub steps: usize,

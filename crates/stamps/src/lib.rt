@@ -5,13 +5,13 @@ ghost use Rattle.std.specs.Prelude.{◌≡◌};
 ghost use Rattle.stamps.specs.Stamp.{compared_of, greater_of, same_of, greatest_of, fresh_pair};
 
 // "A stamp is (count 0..65,535, desk 0..3), ordered by count, then desk": the derived order goes by the fields in this order.
-#[derive(Clone, Copy, PartialEq, Eq, PartialOrd, Ord, Debug, Default)]
+#[derive(Clone, Copy, PartialEq, Eq, PartialOrd, Ord, Default)]
 pub struct Stamp {
     pub count: u16,
     pub desk: u8,
 }
 
-#[derive(Clone, Copy, PartialEq, Eq, Debug, Default)]
+#[derive(Clone, Copy, PartialEq, Eq, Default)]
 pub struct Pair {
     pub stamp: Stamp,
     pub value: u32,
